@@ -1,0 +1,51 @@
+-- Each turn writes one block; those before it stay (Front).
+use Prim.Native.Nat.{_-_, _/_, _≤_}
+use mathlib.Core.Path.{_≡_}
+use lib.ListN.{length}
+use borrow.Author.Needs.{needs}
+use Rattle.cipher.specs.Aes.{cipher}
+use Rattle.bench.proofs.Laws.{Front, front-first, front-next, front-done}
+use Rattle.bench.proofs.encipher_blocks.Statement.{statement}
+use Rattle.bench.proofs.encipher_blocks.Tie as tie
+
+abbrev Inv-loop : tie.InvT-loop
+Inv-loop w input out₀ count n₀ out n = (count ≡ length input / 16) × Front (cipher w) input out₀ n out
+
+abbrev μ-loop : tie.MeasureT-loop
+μ-loop w input out₀ count n₀ out n = count - n
+
+loop-holds : tie.Need-loop-holds Inv-loop μ-loop
+loop-holds c = search (needs, front-first)
+
+mul-block-at : tie.Need-mul-block-at Inv-loop μ-loop
+mul-block-at c = search needs
+
+block-at-requires : tie.Need-block-at-requires Inv-loop μ-loop
+block-at-requires c κs = search needs
+
+mul-put-at : tie.Need-mul-put-at Inv-loop μ-loop
+mul-put-at c = search needs
+
+encipher-with-requires : tie.Need-encipher-with-requires Inv-loop μ-loop
+encipher-with-requires c κs = search needs
+
+put-at-requires : tie.Need-put-at-requires Inv-loop μ-loop
+put-at-requires c κs = search needs
+
+add-n : tie.Need-add-n Inv-loop μ-loop
+add-n c = search needs
+
+loop-less : tie.Need-loop-less Inv-loop μ-loop
+loop-less c = search needs
+
+loop-again : tie.Need-loop-again Inv-loop μ-loop
+loop-again c = search (needs, front-next)
+
+same-length : tie.Need-same-length Inv-loop μ-loop
+same-length c = search needs
+
+returns : tie.Need-returns Inv-loop μ-loop
+returns c = search (needs, front-done)
+
+pub encipher-blocks-spec : {M : Type 1} → statement M
+encipher-blocks-spec = tie.close (tie.spec Inv-loop μ-loop loop-holds mul-block-at block-at-requires mul-put-at encipher-with-requires put-at-requires add-n loop-less loop-again same-length returns)

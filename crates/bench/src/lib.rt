@@ -1,0 +1,119 @@
+// What bench/cipher.c measures: CMAC, and AES-128 both ways over many blocks. Each writes to the front of `out` and answers 1. Where
+// the key is not 16 bytes long or `out` has no room it answers 0, and `out` is as it was.
+use cipher::aes;
+use cipher::cmac;
+ghost use mathlib.Core.Path.{_≡_};
+ghost use mathlib.Core.List.{_++_};
+ghost use Prim.Native.Nat.{_+_, _≤_};
+ghost use lib.ListN.{length, take, drop};
+ghost use Rattle.cipher.specs.Aes.{cipher, invCipher, encipher, decipher};
+ghost use Rattle.cipher.specs.Cmac.{cmac};
+ghost use Rattle.bench.specs.Lent.{fits, answer, eachBlock, onto, written};
+
+// The 16 bytes of s at a place.
+fn block_at(s: &[u8], at: usize) -> [u8; 16]
+    requires { ⌜ at + 16 ≤ length (now s) ⌝ }
+    ensures { λ r. ⌜ r ≡ take 16 (drop at (now (s .entry))) ⌝ }
+{
+    let mut r = [0u8; 16];
+    let mut i = 0;
+    while i < 16 {
+        r[i] = s[at + i];
+        i += 1;
+    }
+    r
+}
+
+// Writes a block to the front of out.
+fn put(out: &mut [u8], block: [u8; 16])
+    requires { ⌜ 16 ≤ length (now out) ⌝ }
+    ensures { λ _. ⌜ now (out .exit) ≡ block ++ drop 16 (now (out .entry)) ⌝ }
+{
+    let mut i = 0;
+    while i < 16 {
+        out[i] = block[i];
+        i += 1;
+    }
+}
+
+// Writes a block at a place of out.
+fn put_at(out: &mut [u8], at: usize, block: [u8; 16])
+    requires { ⌜ at + 16 ≤ length (now out) ⌝ }
+    ensures { λ _. ⌜ now (out .exit) ≡ take at (now (out .entry)) ++ (block ++ drop (at + 16) (now (out .entry))) ⌝ }
+{
+    put(&mut out[at..], block);
+}
+
+// Enciphers each block of input into out.
+fn encipher_blocks(w: [u8; 176], input: &[u8], out: &mut [u8])
+    requires { ⌜ length (now input) ≤ length (now out) ⌝ }
+    ensures { λ _. ⌜ now (out .exit) ≡ onto (now (out .entry)) (eachBlock (cipher w) (now (input .entry))) ⌝ }
+{
+    let count = input.len() / 16;
+    let mut n = 0;
+    while n < count {
+        let block = block_at(input, n * 16);
+        put_at(out, n * 16, aes::encipher_with(w, block));
+        n += 1;
+    }
+}
+
+// Deciphers each block of input into out.
+fn decipher_blocks(w: [u8; 176], input: &[u8], out: &mut [u8])
+    requires { ⌜ length (now input) ≤ length (now out) ⌝ }
+    ensures { λ _. ⌜ now (out .exit) ≡ onto (now (out .entry)) (eachBlock (invCipher w) (now (input .entry))) ⌝ }
+{
+    let count = input.len() / 16;
+    let mut n = 0;
+    while n < count {
+        let block = block_at(input, n * 16);
+        put_at(out, n * 16, aes::decipher_with(w, block));
+        n += 1;
+    }
+}
+
+// Whether the key has 16 bytes, and out room for n.
+fn fits(key: &[u8], n: usize, out: &[u8]) -> bool
+    ensures { λ r. ⌜ r ≡ fits (now (key .entry)) n (now (out .entry)) ⌝ }
+{
+    key.len() == 16 && n <= out.len()
+}
+
+// CMAC of a message. out has room for 16 bytes.
+#[no_mangle]
+pub extern "C" fn bench_cmac(key: &[u8], message: &[u8], out: &mut [u8]) -> u64
+    ensures answer { λ r. ⌜ r ≡ answer (fits (now (key .entry)) 16 (now (out .entry))) ⌝ }
+    ensures lent { λ _. ⌜ now (out .exit) ≡ written (fits (now (key .entry)) 16 (now (out .entry))) (now (out .entry)) (cmac (now (key .entry)) (now (message .entry))) ⌝ }
+{
+    if fits(key, 16, out) {
+        put(out, cmac::cmac(block_at(key, 0), message));
+        return 1;
+    }
+    0
+}
+
+// Enciphers every whole block of the input, the key expanded once. out has room for the input.
+#[no_mangle]
+pub extern "C" fn bench_encipher(key: &[u8], input: &[u8], out: &mut [u8]) -> u64
+    ensures answer { λ r. ⌜ r ≡ answer (fits (now (key .entry)) (length (now (input .entry))) (now (out .entry))) ⌝ }
+    ensures lent { λ _. ⌜ now (out .exit) ≡ written (fits (now (key .entry)) (length (now (input .entry))) (now (out .entry))) (now (out .entry)) (eachBlock (encipher (now (key .entry))) (now (input .entry))) ⌝ }
+{
+    if fits(key, input.len(), out) {
+        encipher_blocks(aes::key_expansion(block_at(key, 0)), input, out);
+        return 1;
+    }
+    0
+}
+
+// Deciphers every whole block of the input, the key expanded once. out has room for the input.
+#[no_mangle]
+pub extern "C" fn bench_decipher(key: &[u8], input: &[u8], out: &mut [u8]) -> u64
+    ensures answer { λ r. ⌜ r ≡ answer (fits (now (key .entry)) (length (now (input .entry))) (now (out .entry))) ⌝ }
+    ensures lent { λ _. ⌜ now (out .exit) ≡ written (fits (now (key .entry)) (length (now (input .entry))) (now (out .entry))) (now (out .entry)) (eachBlock (decipher (now (key .entry))) (now (input .entry))) ⌝ }
+{
+    if fits(key, input.len(), out) {
+        decipher_blocks(aes::key_expansion(block_at(key, 0)), input, out);
+        return 1;
+    }
+    0
+}

@@ -1,0 +1,13 @@
+-- The laws that the proofs of this crate and those of the crates above cite. `Laws` is what a crate above needs of the ciphers.
+pub mod Xor
+pub mod Numbers
+pub mod Table
+pub mod Loop
+pub mod TableRules
+pub mod Mixing
+pub mod States
+pub mod Schedules
+pub mod RoundTrip
+pub mod Doubling
+pub mod Chain
+pub mod Laws

@@ -1,0 +1,25 @@
+-- The bytes of a number below 65,536.
+use mathlib.Core.Path.{_≡_, ap}
+use mathlib.Core.List.{[], _∷_}
+use Prim.Native.Nat.{ℕ, _/_, _%_}
+use native.Mathlib.Omega.{arith}
+use Rattle.cipher.specs.Number.{bigEndian}
+use borrow.Author.Needs.{needs}
+use Rattle.cipher.proofs.block.to_be16.Statement.{statement}
+use Rattle.cipher.proofs.block.to_be16.Tie as tie
+
+cast-t3 : tie.Need-cast-t3
+cast-t3 c = search needs
+
+cast-t5 : tie.Need-cast-t5
+cast-t5 c = search needs
+
+returns : tie.Need-returns
+unfolding bigEndian
+returns c =
+    let n = c .args .n in
+    let e : n / 256 ≡ n / 256 % 256 = omega arith in
+    ap (λ (x : ℕ). x ∷ n % 256 ∷ []) e
+
+pub to-be16-spec : {M : Type 1} → statement M
+to-be16-spec = tie.close (tie.spec cast-t3 cast-t5 returns)

@@ -1,0 +1,72 @@
+-- Each turn writes one byte of the XOR (Loop).
+use mathlib.Core.Path.{_≡_, refl, sym, ap, _∙_}
+use Prim.Native.Nat.{ℕ, _-_, _≤_}
+use native.Mathlib.Omega.{arith}
+use lib.ListN.{length, getD}
+use Rattle.cipher.proofs.Loop.{part, part-turn, part-read, part-done}
+use lib.Bits.{bitXor}
+use Rattle.cipher.specs.Block.{_⊕_}
+use Rattle.cipher.proofs.Xor.{⊕-length, ⊕-at}
+use borrow.Author.Needs.{needs}
+use Rattle.cipher.proofs.block.xor.Statement.{statement}
+use Rattle.cipher.proofs.block.xor.Tie as tie
+
+abbrev Inv-loop : tie.InvT-loop
+Inv-loop b s₀ i₀ s i = (i ≤ 16) × (s ≡ part i (s₀ ⊕ b) s₀)
+
+abbrev μ-loop : tie.MeasureT-loop
+μ-loop b s₀ i₀ s i = 16 - i
+
+loop-holds : tie.Need-loop-holds Inv-loop μ-loop
+loop-holds c = (omega arith, refl)
+
+array-read-s : tie.Need-array-read-s Inv-loop μ-loop
+array-read-s c = search needs
+
+array-read-s-2 : tie.Need-array-read-s-2 Inv-loop μ-loop
+array-read-s-2 c = search needs
+
+array-write-s : tie.Need-array-write-s Inv-loop μ-loop
+array-write-s c = search needs
+
+add-i : tie.Need-add-i Inv-loop μ-loop
+add-i c = search needs
+
+loop-less : tie.Need-loop-less Inv-loop μ-loop
+loop-less c = search needs
+
+loop-again : tie.Need-loop-again Inv-loop μ-loop
+loop-again c =
+    let a = c .before .before .args .a in
+    let b = c .before .before .args .t2 in
+    let h : length a ≡ 16 = search needs in
+    let k : length b ≡ 16 = search needs in
+    let l : length (a ⊕ b) ≡ length a = ⊕-length a b (omega arith) in
+    let i = c .before .loop .i in (
+      omega arith,
+      part-turn i (a ⊕ b) a _ _ (c .before .loop .inv .1) (omega arith) (omega arith)
+          (ap (λ (x : ℕ). bitXor x (getD b i 0)) (part-read i (a ⊕ b) a _ (c .before .loop .inv .1) (omega arith)) ∙ sym (⊕-at a b i (omega arith) (omega arith))),
+    )
+
+returns : tie.Need-returns Inv-loop μ-loop
+returns c =
+    let a = c .before .before .args .a in
+    let b = c .before .before .args .t2 in
+    let h : length a ≡ 16 = search needs in
+    let k : length b ≡ 16 = search needs in
+    part-done 16 (c .before .loop .i) (a ⊕ b) a _ (c .before .loop .inv .1) (c .loop-test .left) (⊕-length a b (omega arith) ∙ h) h
+
+pub xor-spec : {M : Type 1} → statement M
+xor-spec =
+    tie.close
+    (tie.spec
+    Inv-loop
+    μ-loop
+    loop-holds
+    array-read-s
+    array-read-s-2
+    array-write-s
+    add-i
+    loop-less
+    loop-again
+    returns)

@@ -1,0 +1,24 @@
+-- The key made ready gives what the key gives (Laws).
+use mathlib.Core.Path.{_∙_}
+use mathlib.Core.List.{_++_}
+use Prim.Native.Nat.{_+_}
+use Rattle.cipher.proofs.Laws.{mac-is}
+use borrow.Author.Needs.{needs}
+use Rattle.cipher.proofs.cmac.cmac_of_parts.Statement.{statement}
+use Rattle.cipher.proofs.cmac.cmac_of_parts.Tie as tie
+
+prepare-requires : tie.Need-prepare-requires
+prepare-requires c κs = search needs
+
+mac-of-parts-requires : tie.Need-mac-of-parts-requires
+mac-of-parts-requires c κs = search needs
+
+returns : tie.Need-returns
+returns c =
+    let d = c .before .before .before .before in
+    let k = c .before .prepare .ensures in
+    c .mac-of-parts .ensures
+    ∙ mac-is (d .args .key) _ _ _ (d .args .first .now ++ d .args .second .now) (k .0) (k .1) (k .2)
+
+pub cmac-of-parts-spec : {M : Type 1} → statement M
+cmac-of-parts-spec = tie.close (tie.spec prepare-requires mac-of-parts-requires returns)

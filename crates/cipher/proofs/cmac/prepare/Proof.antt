@@ -1,0 +1,40 @@
+-- The subkeys are doublings of the enciphered zero block.
+use mathlib.Core.Path.{ap, _∙_}
+use Rattle.cipher.specs.Cmac.{subkey1, subkey2}
+use Rattle.cipher.proofs.Laws.{encipher-is}
+use Rattle.cipher.specs.Double.{double}
+use Rattle.cipher.specs.Block.{zeros}
+use borrow.Author.Needs.{needs}
+use Rattle.cipher.proofs.cmac.prepare.Statement.{statement}
+use Rattle.cipher.proofs.cmac.prepare.Tie as tie
+
+key-expansion-requires : tie.Need-key-expansion-requires
+key-expansion-requires c κs = search needs
+
+encipher-with-requires : tie.Need-encipher-with-requires
+encipher-with-requires c κs = search needs
+
+double-requires : tie.Need-double-requires
+double-requires c κs = search needs
+
+double-requires-2 : tie.Need-double-requires-2
+double-requires-2 c κs = search needs
+
+returns : tie.Need-returns
+unfolding subkey1 subkey2
+returns c =
+    let d = c .before .before .before .before in
+    let key = d .args .key in
+    let k = c .before .before .before .key-expansion .ensures in
+    let e1 = c .before .double .ensures ∙ ap double (c .before .before .encipher-with .ensures ∙ encipher-is key _ (zeros 16) k) in
+    (k, e1, c .double2 .ensures ∙ ap double e1)
+
+pub prepare-spec : {M : Type 1} → statement M
+prepare-spec =
+    tie.close
+    (tie.spec
+    key-expansion-requires
+    encipher-with-requires
+    double-requires
+    double-requires-2
+    returns)

@@ -1,0 +1,29 @@
+-- Before the seam it is in the first part, from there on in the second (Chain).
+use Rattle.cipher.proofs.Chain.{byte-first, byte-second}
+use borrow.Author.Needs.{needs}
+use Rattle.cipher.proofs.parts.byte.Statement.{statement}
+use Rattle.cipher.proofs.parts.byte.Tie as tie
+
+shared-slice-read-result : tie.Need-shared-slice-read-result
+shared-slice-read-result c = search needs
+
+sub-result : tie.Need-sub-result
+sub-result c = search needs
+
+shared-slice-read-result-2 : tie.Need-shared-slice-read-result-2
+shared-slice-read-result-2 c = search needs
+
+returns : tie.Need-returns
+returns c =
+    let d = c .before .before in
+    byte-first (d .args .a .now) (d .args .b .now) (d .args .at) (c .before .if1 .taken)
+
+returns-2 : tie.Need-returns-2
+returns-2 c =
+    let d = c .before .before in
+    byte-second (d .args .a .now) (d .args .b .now) (d .args .at) (c .before .if1 .left)
+
+pub byte-spec : {M : Type 1} → statement M
+byte-spec =
+    tie.close
+    (tie.spec shared-slice-read-result sub-result shared-slice-read-result-2 returns returns-2)

@@ -1,0 +1,96 @@
+-- Each turn reads one byte of what is left; then the mark, and the zeros that were there (Chain).
+use mathlib.Core.Path.{_≡_, refl, sym, ap, _∙_}
+use mathlib.Core.List.{_++_}
+use Prim.Native.Nat.{ℕ, _+_, _-_, _≤_}
+use native.Mathlib.Omega.{arith}
+use lib.ListN.{length, getD, drop}
+use Rattle.cipher.proofs.Loop.{part, part-turn}
+use lib.ListN.{length-append, length-drop}
+use lib.Seq.{getD-drop}
+use Rattle.cipher.proofs.Chain.{padded-length, padded-at, padded-mark, padded-end}
+use Rattle.cipher.specs.Cmac.{padded}
+use Rattle.cipher.specs.Block.{zeros}
+use borrow.Author.Needs.{needs}
+use Rattle.cipher.proofs.parts.padded.Statement.{statement}
+use Rattle.cipher.proofs.parts.padded.Tie as tie
+
+abbrev Inv-loop : tie.InvT-loop
+Inv-loop a b at n r₀ i₀ r i = (n ≡ length a + length b - at) × (i ≤ n) × (r ≡ part i (padded (drop at (a ++ b))) r₀)
+
+abbrev μ-loop : tie.MeasureT-loop
+μ-loop a b at n r₀ i₀ r i = n - i
+
+add-n : tie.Need-add-n Inv-loop μ-loop
+add-n c = search needs
+
+sub-n : tie.Need-sub-n Inv-loop μ-loop
+sub-n c = search needs
+
+loop-holds : tie.Need-loop-holds Inv-loop μ-loop
+loop-holds c = (refl, omega arith, refl)
+
+add-byte : tie.Need-add-byte Inv-loop μ-loop
+add-byte c = search needs
+
+byte-requires : tie.Need-byte-requires Inv-loop μ-loop
+byte-requires c κs = search needs
+
+array-write-r : tie.Need-array-write-r Inv-loop μ-loop
+array-write-r c = search needs
+
+add-i : tie.Need-add-i Inv-loop μ-loop
+add-i c = search needs
+
+loop-less : tie.Need-loop-less Inv-loop μ-loop
+loop-less c = search needs
+
+loop-again : tie.Need-loop-again Inv-loop μ-loop
+loop-again c =
+    let l = c .before .before in
+    let d = l .before .before .before in
+    let at = d .args .at in
+    let m = d .args .a .now ++ d .args .b .now in
+    let i = l .loop .i in
+    let n : length (drop at m) ≡ length (d .args .a .now) + length (d .args .b .now) - at = simp (length-drop, length-append) in
+    let p : length (padded (drop at m)) ≡ 16 = padded-length (drop at m) (omega arith) in (
+      l .loop .inv .0,
+      omega arith,
+      part-turn i (padded (drop at m)) _ _ _ (l .loop .inv .2) (omega arith) (omega arith)
+          (c .byte .ensures ∙ sym (padded-at (drop at m) i (omega arith) ∙ getD-drop at m i 0)),
+    )
+
+array-write-r-2 : tie.Need-array-write-r-2 Inv-loop μ-loop
+array-write-r-2 c = search needs
+
+returns : tie.Need-returns Inv-loop μ-loop
+returns c =
+    let l = c .before in
+    let d = l .before .before .before in
+    let at = d .args .at in
+    let m = d .args .a .now ++ d .args .b .now in
+    let i = l .loop .i in
+    let n : length (drop at m) ≡ length (d .args .a .now) + length (d .args .b .now) - at = simp (length-drop, length-append) in
+    let p : length (padded (drop at m)) ≡ 16 = padded-length (drop at m) (omega arith) in
+    let e : length (drop at m) ≡ i = omega arith in
+    part-turn i (padded (drop at m)) (zeros 16) _ 128 (l .loop .inv .2) (omega arith) (omega arith)
+    (sym (ap (λ (k : ℕ). getD (padded (drop at m)) k 0) (sym e) ∙ padded-mark (drop at m)))
+    ∙ ap (λ (k : ℕ). part (k + 1) (padded (drop at m)) (zeros 16)) (sym e)
+    ∙ padded-end (drop at m) (omega arith)
+
+pub padded-spec : {M : Type 1} → statement M
+padded-spec =
+    tie.close
+    (tie.spec
+    Inv-loop
+    μ-loop
+    add-n
+    sub-n
+    loop-holds
+    add-byte
+    byte-requires
+    array-write-r
+    add-i
+    loop-less
+    loop-again
+    array-write-r-2
+    returns)

@@ -1,0 +1,77 @@
+-- Each turn is a round (RoundTrip).
+use mathlib.Core.Path.{_≡_, refl, ap, ap₂, _∙_}
+use mathlib.Core.List.{List}
+use Prim.Native.Nat.{ℕ, _-_, _≤_}
+use native.Mathlib.Omega.{arith}
+use Rattle.cipher.specs.Block.{_⊕_}
+use Rattle.cipher.specs.Aes.{sbox, subBytes, shiftRows, roundKey, rounds, cipher}
+use Rattle.cipher.proofs.RoundTrip.{rounds-more}
+use borrow.Author.Needs.{needs}
+use Rattle.cipher.proofs.rounds.cipher.Statement.{statement}
+use Rattle.cipher.proofs.rounds.cipher.Tie as tie
+
+abbrev Inv-loop : tie.InvT-loop
+Inv-loop t w s₀ n₀ s n = (n ≤ 9) × (s ≡ rounds w n s₀)
+
+abbrev μ-loop : tie.MeasureT-loop
+μ-loop t w s₀ n₀ s n = 9 - n
+
+add-round-key-requires : tie.Need-add-round-key-requires Inv-loop μ-loop
+add-round-key-requires c κs = search needs
+
+loop-holds : tie.Need-loop-holds Inv-loop μ-loop
+unfolding rounds
+loop-holds c = (omega arith, refl)
+
+add-n : tie.Need-add-n Inv-loop μ-loop
+add-n c = search needs
+
+round-requires : tie.Need-round-requires Inv-loop μ-loop
+round-requires c κs = search needs
+
+loop-less : tie.Need-loop-less Inv-loop μ-loop
+loop-less c = search needs
+
+loop-again : tie.Need-loop-again Inv-loop μ-loop
+loop-again c =
+    let l = c .before .before in
+    let w = l .before .before .args .w .now in
+    (omega arith, c .round .ensures ∙ rounds-more w (l .loop .n) _ _ (l .loop .inv .1))
+
+substitute-requires : tie.Need-substitute-requires Inv-loop μ-loop
+substitute-requires c κs = search needs
+
+shift-rows-requires : tie.Need-shift-rows-requires Inv-loop μ-loop
+shift-rows-requires c κs = search needs
+
+add-round-key-requires-2 : tie.Need-add-round-key-requires-2 Inv-loop μ-loop
+add-round-key-requires-2 c κs = search needs
+
+returns : tie.Need-returns Inv-loop μ-loop
+unfolding cipher subBytes
+returns c =
+    let l = c .before .before .before .before in
+    let d = l .before .before in
+    let w = d .args .w .now in
+    let e : l .loop .n ≡ 9 = omega arith in
+    c .add-round-key2 .ensures
+    ∙ ap (λ (s : List ℕ). s ⊕ roundKey w 10)
+    (c .before .shift-rows .ensures ∙ ap shiftRows (c .before .before .substitute .ensures sbox (d .pre .0)
+    ∙ ap subBytes (l .loop .inv .1 ∙ ap₂ (rounds w) e (l .before .add-round-key .ensures))))
+
+pub cipher-spec : {M : Type 1} → statement M
+cipher-spec =
+    tie.close
+    (tie.spec
+    Inv-loop
+    μ-loop
+    add-round-key-requires
+    loop-holds
+    add-n
+    round-requires
+    loop-less
+    loop-again
+    substitute-requires
+    shift-rows-requires
+    add-round-key-requires-2
+    returns)

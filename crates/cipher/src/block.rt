@@ -1,0 +1,78 @@
+// Blocks of 16 bytes, and big-endian numbers.
+ghost use mathlib.Core.Path.{_≡_};
+ghost use Prim.Native.Nat.{_<_};
+ghost use mathlib.Core.List.{[], _∷_};
+ghost use Rattle.cipher.specs.Block.{_⊕_, same};
+ghost use Rattle.cipher.specs.Number.{number, bigEndian};
+ghost use Rattle.cipher.specs.Double.{double};
+
+// The XOR of two blocks.
+pub fn xor(a: [u8; 16], b: [u8; 16]) -> [u8; 16]
+    ensures { λ r. ⌜ r ≡ a ⊕ b ⌝ }
+{
+    let mut s = a;
+    let mut i = 0;
+    while i < 16 {
+        s[i] ^= b[i];
+        i += 1;
+    }
+    s
+}
+
+// Whether two blocks are equal.
+pub fn equal(a: [u8; 16], b: [u8; 16]) -> bool
+    ensures { λ r. ⌜ r ≡ same a b ⌝ }
+{
+    let mut i = 0;
+    while i < 16 {
+        if a[i] != b[i] {
+            return false;
+        }
+        i += 1;
+    }
+    true
+}
+
+// A block shifted left by one bit as a big-endian number, with 87 hexadecimal XORed into the last byte if the bit lost was 1.
+pub fn double(b: [u8; 16]) -> [u8; 16]
+    ensures { λ r. ⌜ r ≡ double b ⌝ }
+{
+    let mut r = [0u8; 16];
+    let mut i = 0;
+    while i < 15 {
+        r[i] = (b[i] << 1) | (b[i + 1] >> 7);
+        i += 1;
+    }
+    r[15] = (b[15] << 1) ^ (0x87 * (b[0] >> 7));
+    r
+}
+
+// The number that two bytes are.
+pub fn from_be16(hi: u8, lo: u8) -> u16
+    ensures { λ r. ⌜ r ≡ number (hi ∷ lo ∷ []) ⌝ }
+{
+    (hi as u16) * 256 + lo as u16
+}
+
+// A number as two bytes.
+pub fn to_be16(n: u16) -> [u8; 2]
+    ensures { λ r. ⌜ r ≡ bigEndian 2 n ⌝ }
+{
+    [(n / 256) as u8, (n % 256) as u8]
+}
+
+// A number as eight bytes.
+pub fn to_be64(n: u64) -> [u8; 8]
+    ensures { λ r. ⌜ r ≡ bigEndian 8 n ⌝ }
+{
+    [
+        (n / 0x100_0000_0000_0000) as u8,
+        (n / 0x1_0000_0000_0000 % 256) as u8,
+        (n / 0x100_0000_0000 % 256) as u8,
+        (n / 0x1_0000_0000 % 256) as u8,
+        (n / 0x100_0000 % 256) as u8,
+        (n / 0x1_0000 % 256) as u8,
+        (n / 0x100 % 256) as u8,
+        (n % 256) as u8,
+    ]
+}
