@@ -1,4 +1,4 @@
--- A copy element by element, a part that comes back, blocks written one after another to the front of a list, and what a call leaves.
+-- Blocks written one after another to the front of a list, and what a call leaves.
 -- Assumes nothing.
 use Prim.Native.Nat.{ℕ, suc, _+_, _*_, _-_, _/_, _≤_, _<_}
 use mathlib.Core.Path.{_≡_, refl, sym, ap, _∙_}
@@ -14,51 +14,6 @@ use lib.Dec.{eqb, leb}
 use Rattle.cipher.specs.Aes.{keyExpansion, cipher, invCipher, encipher, decipher}
 use Rattle.cipher.specs.Cmac.{cmac}
 use Rattle.bench.specs.Lent.{fits, answer, firstBlocks, eachBlock, onto, written}
-
--- the first i elements of s are copied to the front of d₀
-pub record Copied (s d₀ : List ℕ) (i : ℕ) (d : List ℕ) : Type 0 where
-  pub count : i ≤ 16
-  pub size : length d ≡ length d₀
-  pub bytes : d ≡ take i s ++ drop i d₀
-
-pub copy-first : (s d₀ : List ℕ) → Copied s d₀ 0 d₀
-copy-first s d₀ = record { count = omega arith; size = refl; bytes = refl }
-
-pub copy-next : (s d₀ : List ℕ) (i : ℕ) (d : List ℕ) (v : ℕ) → 16 ≤ length s → 16 ≤ length d₀ → Copied s d₀ i d → i < 16
-    → v ≡ getD s i 0
-    → Copied s d₀ (i + 1) (set d i v)
-copy-next s d₀ i d v ls ld k h e =
-    let z : 0 + i ≡ i = omega arith in
-    let y : 0 + suc i ≡ suc i = omega arith in
-    let p = paste-suc d₀ 0 s i 0 (omega arith) (omega arith) in
-    record {
-      count = omega arith;
-      size = length-set d i v ∙ k .size;
-      bytes = rw (k .bytes, e, add-one i) (simp (z, y) at p);
-    }
-
-copy-done : (s d₀ : List ℕ) (i : ℕ) (d : List ℕ) → Copied s d₀ i d → 16 ≤ i → d ≡ take 16 s ++ drop 16 d₀
-copy-done s d₀ i d k h =
-    let e : i ≡ 16 = omega (arith, k .count) in
-    k .bytes ∙ ap (λ (m : ℕ). take m s ++ drop m d₀) e
-
--- all of a block is copied
-pub copied-whole : (s d₀ : List ℕ) (i : ℕ) (d : List ℕ) → Copied s d₀ i d → 16 ≤ i → length s ≡ 16 → d ≡ s ++ drop 16 d₀
-copied-whole s d₀ i d k h l = copy-done s d₀ i d k h ∙ ap (λ (x : List ℕ). x ++ drop 16 d₀) (take-all 16 s (omega arith))
-
--- a block is full
-pub copied-full : (s d₀ : List ℕ) (i : ℕ) (d : List ℕ) → Copied s d₀ i d → 16 ≤ i → length d₀ ≡ 16 → d ≡ take 16 s
-copied-full s d₀ i d k h l =
-    let e : drop 16 d₀ ≡ [] = rw (← l) (drop-length d₀) in
-    copy-done s d₀ i d k h ∙ rw e (append-nil (take 16 s))
-
--- a part of a list, from a to the end, that comes back with a block in front
-pub part-back : (xs ys block : List ℕ) (a : ℕ) → a + 16 ≤ length xs → ys ≡ block ++ drop 16 (take (length xs - a) (drop a xs))
-    → putMid a (length xs - a) xs ys ≡ take a xs ++ (block ++ drop (a + 16) xs)
-part-back xs ys block a h e =
-    let all : take (length xs - a) (drop a xs) ≡ drop a xs = take-all (length xs - a) (drop a xs) (simp length-drop (omega arith)) in
-    let none : drop (length xs - a) (drop a xs) ≡ [] = rw (← length-drop a xs) (drop-length (drop a xs)) in
-    rw (e, all, none, append-nil, drop-drop) refl
 
 -- the first n blocks of s through f stand at the front of what o was
 pub record Front (f : List ℕ → List ℕ) (s o : List ℕ) (n : ℕ) (out : List ℕ) : Type 0 where

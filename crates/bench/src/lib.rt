@@ -1,48 +1,16 @@
 // What bench/cipher.c measures: CMAC, and AES-128 both ways over many blocks. Each writes to the front of `out` and answers 1. Where
 // the key is not 16 bytes long or `out` has no room it answers 0, and `out` is as it was.
 use cipher::aes;
+use cipher::block::block_at;
+use cipher::block::put;
+use cipher::block::put_at;
 use cipher::cmac;
 ghost use mathlib.Core.Path.{_≡_};
-ghost use mathlib.Core.List.{_++_};
-ghost use Prim.Native.Nat.{_+_, _≤_};
-ghost use lib.ListN.{length, take, drop};
+ghost use Prim.Native.Nat.{_≤_};
+ghost use lib.ListN.{length};
 ghost use Rattle.cipher.specs.Aes.{cipher, invCipher, encipher, decipher};
 ghost use Rattle.cipher.specs.Cmac.{cmac};
 ghost use Rattle.bench.specs.Lent.{fits, answer, eachBlock, onto, written};
-
-// The 16 bytes of s at a place.
-fn block_at(s: &[u8], at: usize) -> [u8; 16]
-    requires { ⌜ at + 16 ≤ length (now s) ⌝ }
-    ensures { λ r. ⌜ r ≡ take 16 (drop at (now (s .entry))) ⌝ }
-{
-    let mut r = [0u8; 16];
-    let mut i = 0;
-    while i < 16 {
-        r[i] = s[at + i];
-        i += 1;
-    }
-    r
-}
-
-// Writes a block to the front of out.
-fn put(out: &mut [u8], block: [u8; 16])
-    requires { ⌜ 16 ≤ length (now out) ⌝ }
-    ensures { λ _. ⌜ now (out .exit) ≡ block ++ drop 16 (now (out .entry)) ⌝ }
-{
-    let mut i = 0;
-    while i < 16 {
-        out[i] = block[i];
-        i += 1;
-    }
-}
-
-// Writes a block at a place of out.
-fn put_at(out: &mut [u8], at: usize, block: [u8; 16])
-    requires { ⌜ at + 16 ≤ length (now out) ⌝ }
-    ensures { λ _. ⌜ now (out .exit) ≡ take at (now (out .entry)) ++ (block ++ drop (at + 16) (now (out .entry))) ⌝ }
-{
-    put(&mut out[at..], block);
-}
 
 // Enciphers each block of input into out.
 fn encipher_blocks(w: [u8; 176], input: &[u8], out: &mut [u8])

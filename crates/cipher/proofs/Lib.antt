@@ -7,6 +7,7 @@ pub mod TableRules
 pub mod Mixing
 pub mod States
 pub mod Schedules
+pub mod WordLaws
 pub mod RoundTrip
 pub mod Doubling
 pub mod Chain

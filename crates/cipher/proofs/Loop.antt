@@ -1,12 +1,13 @@
 -- One law for every loop that writes an array from the front: where it is to become t, after i turns the array l is `part i t l`.
 -- A loop's invariant is that equation; a turn is `part-turn`, what is not yet written is `part-read`, and the end is `part-done`.
 use mathlib.Core.Path.{_≡_, refl, sym, ap, ap₂, _∙_, subst}
-use mathlib.Core.List.{List, [], _∷_, _++_, map, append-assoc}
-use Prim.Native.Nat.{ℕ, zero, suc, _+_, _≤_, _<_, zero-le}
+use mathlib.Core.List.{List, [], _∷_, _++_, map, append-nil}
+use Prim.Native.Nat.{ℕ, zero, suc, _+_, _-_, _≤_, _<_, zero-le}
 use native.Mathlib.Nat.{not-suc-le-zero, le-of-suc-le-suc, le-refl, le-of-eq}
 use native.Mathlib.Numerals.{add-one}
 use lib.ListN.{length, getD, set, take, drop, drop-of-length-le, length-append, length-take, length-drop, take-append-drop, List·getD-append}
-use lib.Seq.{drop-nil, take-at, getD-append-add}
+use borrow.Rule.Slice.PartMut.{putMid}
+use lib.Seq.{drop-nil, take-all, drop-drop, drop-length}
 use native.Mathlib.Omega.{arith}
 
 abbrev pub part : ℕ → List ℕ → List ℕ → List ℕ
@@ -56,3 +57,15 @@ pub map-at : (f : ℕ → ℕ) (l : List ℕ) (i : ℕ) → i < length l → get
 map-at f [] i h = absurd (not-suc-le-zero h)
 map-at f (x ∷ l) zero h = refl
 map-at f (x ∷ l) (suc i) h = map-at f l i (le-of-suc-le-suc h)
+
+-- the front of a longer list, once all of t is written
+pub part-front : (n i : ℕ) (t l s : List ℕ) → s ≡ part i t l → i ≡ n → length t ≡ n → s ≡ t ++ drop n l
+part-front n i t l s p e h = p ∙ ap (λ (k : ℕ). part k t l) e ∙ ap (λ (z : List ℕ). z ++ drop n l) (take-all n t (omega arith))
+
+-- a part of a list, from a to the end, that comes back with n new elements in front
+pub part-back : (xs ys new : List ℕ) (a n : ℕ) → a + n ≤ length xs → ys ≡ new ++ drop n (take (length xs - a) (drop a xs))
+    → putMid a (length xs - a) xs ys ≡ take a xs ++ (new ++ drop (a + n) xs)
+part-back xs ys new a n h e =
+    let all : take (length xs - a) (drop a xs) ≡ drop a xs = take-all (length xs - a) (drop a xs) (simp length-drop (omega arith)) in
+    let none : drop (length xs - a) (drop a xs) ≡ [] = rw (← length-drop a xs) (drop-length (drop a xs)) in
+    rw (e, all, none, append-nil, drop-drop) refl

@@ -170,17 +170,14 @@ mixed-inv a b c d = split-mix a b c d ∙ alone a _ _ _ _ (mix-0 a) (mix-1 b) (m
 
 -- ---- as the code computes them
 
-pub xtimes-code : (b : ℕ) → b < 256 → bitXor (b * 2 % 256) (27 * (b / 128)) ≡ xtimes b
-unfolding xtimes
-xtimes-code b h = let e : b / 128 ≡ b / 128 % 2 = omega arith in ap (λ (x : ℕ). bitXor (b * 2 % 256) (27 * x)) e
-
-pub mixed-code : (a b c d ta tb : ℕ) → ta ≡ xtimes a → tb ≡ xtimes b
-    → bitXor (bitXor ta (bitXor tb b)) (bitXor c d) ≡ mixed a b c d
+pub mixed-words : (a b c d : ℕ) → bitXor (bitXor (xtimes a) (bitXor b (xtimes b))) (bitXor c d) ≡ mixed a b c d
 unfolding mixed
-mixed-code a b c d ta tb p q = rw (p, q) (simp (by-2, by-3, xor-assoc, xor-comm, xor-left))
+mixed-words a b c d = simp (by-2, by-3, xor-assoc, xor-comm, xor-left)
 
-pub invMixed-code : (a b c d m ac bd high : ℕ)
-    → m ≡ mixed a b c d → ac ≡ xtimes (xtimes (bitXor a c)) → bd ≡ xtimes (xtimes (bitXor b d)) → high ≡ xtimes (bitXor ac bd)
-    → bitXor (bitXor m ac) high ≡ invMixed a b c d
+-- mixing what has 4 times the byte two below it added
+pub invMixed-words : (a b c d : ℕ)
+    → mixed (bitXor a (xtimes (xtimes (bitXor a c)))) (bitXor b (xtimes (xtimes (bitXor b d))))
+    (bitXor c (xtimes (xtimes (bitXor c a)))) (bitXor d (xtimes (xtimes (bitXor d b))))
+    ≡ invMixed a b c d
 unfolding mixed invMixed
-invMixed-code a b c d m ac bd high p q r s = rw (s, p, q, r) (simp (constants, sums))
+invMixed-words a b c d = simp (constants, sums)

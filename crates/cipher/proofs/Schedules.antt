@@ -8,7 +8,7 @@ use native.Mathlib.Omega.{arith}
 use native.Mathlib.Numerals.{add-one}
 use lib.Dec.{eqb}
 use lib.ListN.{length, getD, set, take, drop, length-append, length-take, length-drop, length-map, take-append-drop}
-use lib.Seq.{take-append-le, drop-append-le, take-at, take-all, getD-take, getD-drop, sets, sets-eq}
+use lib.Seq.{take-append-le, drop-append-le, take-at, take-all, take-add, drop-drop, getD-take, getD-drop, sets, sets-eq}
 use lib.Bits.{bitXor, xor-zero-r}
 use Rattle.cipher.specs.Block.{if_then_else_, Bytes, Block, _⊕_}
 use Rattle.cipher.specs.Field.{power, powerBy, _•_}
@@ -94,11 +94,6 @@ module _ (key : List ℕ) (hk : length key ≡ 16) where
 pub roundKey-length : (w : List ℕ) (n : ℕ) → length w ≡ 176 → n < 11 → length (roundKey w n) ≡ 16
 unfolding roundKey
 roundKey-length w n h l = simp (length-take, length-drop) (omega arith)
-
-pub roundKey-at : (w : List ℕ) (n i : ℕ) → i < 16 → getD (roundKey w n) i 0 ≡ getD w (n * 16 + i) 0
-unfolding roundKey
-roundKey-at w n i h =
-    getD-take 16 (drop (16 * n) w) i 0 h ∙ getD-drop (16 * n) w i 0 ∙ ap (λ (m : ℕ). getD w (m + i) 0) (mul-comm 16 n)
 
 pub roundKey-block : (key : List ℕ) → Block key → (n : ℕ) → n < 11 → Block (roundKey (keyExpansion key) n)
 unfolding roundKey keyExpansion
@@ -202,3 +197,17 @@ put-word w v i a b c d l h e pa pb pc pd =
     ∙ ap (λ (z : List ℕ). take (4 * i) w ++ z ++ drop (4 * i + 4) w)
     ((λ j. pa j ∷ pb j ∷ pc j ∷ pd j ∷ [])
     ∙ ap₂ (λ (x y : List ℕ). x ⊕ y) (sym (word-is w (i - 4) (omega arith))) (elements-of 4 v m ∙ e))
+
+-- a round key is four words
+pub roundKey-words : (w : List ℕ) (n : ℕ) → roundKey w n ≡ word w (4 * n) ++ word w (4 * n + 1) ++ word w (4 * n + 2) ++ word w (4 * n + 3)
+unfolding roundKey word
+roundKey-words w n =
+    let z = drop (16 * n) w in
+    let e0 : 16 * n ≡ 4 * (4 * n) = omega arith in
+    let e1 : 16 * n + 4 ≡ 4 * (4 * n + 1) = omega arith in
+    let e2 : 16 * n + 8 ≡ 4 * (4 * n + 2) = omega arith in
+    let e3 : 16 * n + 12 ≡ 4 * (4 * n + 3) = omega arith in
+    take-add 12 4 z
+    ∙ ap (λ (t : List ℕ). t ++ take 4 (drop 12 z)) (take-add 8 4 z ∙ ap (λ (t : List ℕ). t ++ take 4 (drop 8 z)) (take-add 4 4 z))
+    ∙ (λ i. take 4 (drop (e0 i) w) ++ take 4 ((drop-drop 4 (16 * n) w ∙ ap (λ (k : ℕ). drop k w) e1) i)
+    ++ take 4 ((drop-drop 8 (16 * n) w ∙ ap (λ (k : ℕ). drop k w) e2) i) ++ take 4 ((drop-drop 12 (16 * n) w ∙ ap (λ (k : ℕ). drop k w) e3) i))

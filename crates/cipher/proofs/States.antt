@@ -116,23 +116,3 @@ module _ (s : List ℕ) (h : Block s) where
   pub mixColumns-invMixColumns : mixColumns (invMixColumns s) ≡ s
   unfolding mixColumns invMixColumns
   mixColumns-invMixColumns = columnwise-undo invMixed mixed mixed-inv s (h .long)
-
--- ---- as the code computes them
-
--- k rows below byte i, round its column
-below : (i k : ℕ) → i / 4 * 4 + (i + k) % 4 ≡ (i % 4 + k) % 4 + 4 * (i / 4)
-below i k = omega arith
-
--- byte i of a state made by columns, by the places that the code reads
-pub columnwise-at : (f : ℕ → ℕ → ℕ → ℕ → ℕ) (s : List ℕ) (i : ℕ) → i < 16
-    → f (getD s i 0) (getD s (i / 4 * 4 + (i + 1) % 4) 0) (getD s (i / 4 * 4 + (i + 2) % 4) 0) (getD s (i / 4 * 4 + (i + 3) % 4) 0)
-    ≡ getD (columnwise f s) i 0
-unfolding columnwise
-columnwise-at f s i h =
-    let p : i ≡ i % 4 + 4 * (i / 4) = omega arith in
-    (λ j. f (getD s (p j) 0) (getD s (below i 1 j) 0) (getD s (below i 2 j) 0) (getD s (below i 3 j) 0))
-    ∙ sym (tabulate-at 16 (λ i. f (cell s (i % 4) (i / 4)) (cell s ((i % 4 + 1) % 4) (i / 4)) (cell s ((i % 4 + 2) % 4) (i / 4)) (cell s ((i % 4 + 3) % 4) (i / 4))) i h)
-
-pub columnwise-length : (f : ℕ → ℕ → ℕ → ℕ → ℕ) (s : List ℕ) → length (columnwise f s) ≡ 16
-unfolding columnwise
-columnwise-length f s = refl

@@ -5,3 +5,4 @@ pub mod Field
 pub mod Aes
 pub mod Double
 pub mod Cmac
+pub mod Words

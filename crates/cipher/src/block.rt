@@ -1,7 +1,8 @@
-// Blocks of 16 bytes, and big-endian numbers.
+// Blocks of 16 bytes, where they stand in longer slices, and big-endian numbers.
 ghost use mathlib.Core.Path.{_≡_};
-ghost use Prim.Native.Nat.{_<_};
-ghost use mathlib.Core.List.{[], _∷_};
+ghost use Prim.Native.Nat.{_+_, _≤_};
+ghost use lib.ListN.{length, take, drop};
+ghost use mathlib.Core.List.{[], _∷_, _++_};
 ghost use Rattle.cipher.specs.Block.{_⊕_, same};
 ghost use Rattle.cipher.specs.Number.{number, bigEndian};
 ghost use Rattle.cipher.specs.Double.{double};
@@ -31,6 +32,40 @@ pub fn equal(a: [u8; 16], b: [u8; 16]) -> bool
         i += 1;
     }
     true
+}
+
+// The block that stands at a place of s.
+pub fn block_at(s: &[u8], at: usize) -> [u8; 16]
+    requires { ⌜ at + 16 ≤ length (now s) ⌝ }
+    ensures { λ r. ⌜ r ≡ take 16 (drop at (now (s .entry))) ⌝ }
+{
+    let mut r = [0u8; 16];
+    let mut i = 0;
+    while i < 16 {
+        r[i] = s[at + i];
+        i += 1;
+    }
+    r
+}
+
+// Writes a block to the front of out; what is behind it stays.
+pub fn put(out: &mut [u8], block: [u8; 16])
+    requires { ⌜ 16 ≤ length (now out) ⌝ }
+    ensures { λ _. ⌜ now (out .exit) ≡ block ++ drop 16 (now (out .entry)) ⌝ }
+{
+    let mut i = 0;
+    while i < 16 {
+        out[i] = block[i];
+        i += 1;
+    }
+}
+
+// Writes a block at a place of out, through the part that starts there; all else stays.
+pub fn put_at(out: &mut [u8], at: usize, block: [u8; 16])
+    requires { ⌜ at + 16 ≤ length (now out) ⌝ }
+    ensures { λ _. ⌜ now (out .exit) ≡ take at (now (out .entry)) ++ (block ++ drop (at + 16) (now (out .entry))) ⌝ }
+{
+    put(&mut out[at..], block);
 }
 
 // A block shifted left by one bit as a big-endian number, with 87 hexadecimal XORed into the last byte if the bit lost was 1.

@@ -9,3 +9,4 @@ mod parts;
 mod rounds;
 mod sbox;
 mod schedule;
+mod words;

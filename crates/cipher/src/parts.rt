@@ -1,23 +1,10 @@
 // Blocks of a message that stands in two parts, read where they lie.
+use crate::block::block_at;
 ghost use mathlib.Core.Path.{_≡_};
 ghost use mathlib.Core.List.{_++_};
 ghost use Prim.Native.Nat.{_+_, _≤_, _<_};
 ghost use lib.ListN.{length, getD, take, drop};
 ghost use Rattle.cipher.specs.Cmac.{padded};
-
-// The 16 bytes of m at a place.
-fn within(m: &[u8], at: usize) -> [u8; 16]
-    requires { ⌜ at + 16 ≤ length (now m) ⌝ }
-    ensures { λ r. ⌜ r ≡ take 16 (drop at (now (m .entry))) ⌝ }
-{
-    let mut r = [0u8; 16];
-    let mut i = 0;
-    while i < 16 {
-        r[i] = m[at + i];
-        i += 1;
-    }
-    r
-}
 
 // The byte of two parts, one after the other, at a place.
 fn byte(a: &[u8], b: &[u8], at: usize) -> u8
@@ -47,10 +34,10 @@ pub fn block(a: &[u8], b: &[u8], at: usize) -> [u8; 16]
     ensures { λ r. ⌜ r ≡ take 16 (drop at (now (a .entry) ++ now (b .entry))) ⌝ }
 {
     if a.len() <= at {
-        return within(b, at - a.len());
+        return block_at(b, at - a.len());
     }
     if 16 <= a.len() - at {
-        return within(a, at);
+        return block_at(a, at);
     }
     across(a, b, at)
 }

@@ -6,27 +6,27 @@ use borrow.Author.Needs.{needs}
 use Rattle.cipher.proofs.parts.block.Statement.{statement}
 use Rattle.cipher.proofs.parts.block.Tie as tie
 
-sub-within : tie.Need-sub-within
-sub-within c = search needs
+sub-block-at : tie.Need-sub-block-at
+sub-block-at c = search needs
 
-within-requires : tie.Need-within-requires
-within-requires c κs = search needs
+block-at-requires : tie.Need-block-at-requires
+block-at-requires c κs = search needs
 
 returns : tie.Need-returns
 returns c =
     let d = c .before .before .before .before in
-    c .within .ensures ∙ in-second (d .args .a .now) (d .args .b .now) (d .args .at) (c .before .if1 .taken)
+    c .block-at .ensures ∙ in-second (d .args .a .now) (d .args .b .now) (d .args .at) (c .before .if1 .taken)
 
 sub-if2 : tie.Need-sub-if2
 sub-if2 c = search needs
 
-within-requires-2 : tie.Need-within-requires-2
-within-requires-2 c κs = search needs
+block-at-requires-2 : tie.Need-block-at-requires-2
+block-at-requires-2 c κs = search needs
 
 returns-2 : tie.Need-returns-2
 returns-2 c =
     let d = c .before .before .before .before .before in
-    c .within2 .ensures ∙ in-first (d .args .a .now) (d .args .b .now) (d .args .at) (omega arith)
+    c .block-at2 .ensures ∙ in-first (d .args .a .now) (d .args .b .now) (d .args .at) (omega arith)
 
 across-requires : tie.Need-across-requires
 across-requires c κs = search needs
@@ -38,11 +38,11 @@ pub block-spec : {M : Type 1} → statement M
 block-spec =
     tie.close
     (tie.spec
-    sub-within
-    within-requires
+    sub-block-at
+    block-at-requires
     returns
     sub-if2
-    within-requires-2
+    block-at-requires-2
     returns-2
     across-requires
     returns-3)

@@ -6,15 +6,19 @@ use native.Mathlib.Omega.{arith}
 use Rattle.cipher.specs.Block.{_⊕_}
 use Rattle.cipher.specs.Aes.{sbox, subBytes, shiftRows, roundKey, rounds, cipher}
 use Rattle.cipher.proofs.RoundTrip.{rounds-more}
+use Rattle.cipher.specs.Words.{stateOf}
 use borrow.Author.Needs.{needs}
 use Rattle.cipher.proofs.rounds.cipher.Statement.{statement}
 use Rattle.cipher.proofs.rounds.cipher.Tie as tie
 
 abbrev Inv-loop : tie.InvT-loop
-Inv-loop t w s₀ n₀ s n = (n ≤ 9) × (s ≡ rounds w n s₀)
+Inv-loop t w s₀ n₀ s n = (n ≤ 9) × (stateOf (s .a) (s .b) (s .c) (s .d) ≡ rounds w n (stateOf (s₀ .a) (s₀ .b) (s₀ .c) (s₀ .d)))
 
 abbrev μ-loop : tie.MeasureT-loop
 μ-loop t w s₀ n₀ s n = 9 - n
+
+load-requires : tie.Need-load-requires Inv-loop μ-loop
+load-requires c κs = search needs
 
 add-round-key-requires : tie.Need-add-round-key-requires Inv-loop μ-loop
 add-round-key-requires c κs = search needs
@@ -35,29 +39,31 @@ loop-less c = search needs
 loop-again : tie.Need-loop-again Inv-loop μ-loop
 loop-again c =
     let l = c .before .before in
-    let w = l .before .before .args .w .now in
+    let w = l .before .before .before .args .w .now in
     (omega arith, c .round .ensures ∙ rounds-more w (l .loop .n) _ _ (l .loop .inv .1))
 
-substitute-requires : tie.Need-substitute-requires Inv-loop μ-loop
-substitute-requires c κs = search needs
-
-shift-rows-requires : tie.Need-shift-rows-requires Inv-loop μ-loop
-shift-rows-requires c κs = search needs
+shift-requires : tie.Need-shift-requires Inv-loop μ-loop
+shift-requires c κs = search needs
 
 add-round-key-requires-2 : tie.Need-add-round-key-requires-2 Inv-loop μ-loop
 add-round-key-requires-2 c κs = search needs
+
+store-requires : tie.Need-store-requires Inv-loop μ-loop
+store-requires c κs = search needs
 
 returns : tie.Need-returns Inv-loop μ-loop
 unfolding cipher subBytes
 returns c =
     let l = c .before .before .before .before in
-    let d = l .before .before in
+    let d = l .before .before .before in
     let w = d .args .w .now in
     let e : l .loop .n ≡ 9 = omega arith in
-    c .add-round-key2 .ensures
+    c .store .ensures
+    ∙ c .before .add-round-key2 .ensures
     ∙ ap (λ (s : List ℕ). s ⊕ roundKey w 10)
-    (c .before .shift-rows .ensures ∙ ap shiftRows (c .before .before .substitute .ensures sbox (d .pre .0)
-    ∙ ap subBytes (l .loop .inv .1 ∙ ap₂ (rounds w) e (l .before .add-round-key .ensures))))
+    (c .before .before .shift .ensures sbox (d .pre .0)
+    ∙ ap (λ (s : List ℕ). shiftRows (subBytes s))
+    (l .loop .inv .1 ∙ ap₂ (rounds w) e (l .before .add-round-key .ensures ∙ ap (λ (s : List ℕ). s ⊕ roundKey w 0) (l .before .before .load .ensures))))
 
 pub cipher-spec : {M : Type 1} → statement M
 cipher-spec =
@@ -65,13 +71,14 @@ cipher-spec =
     (tie.spec
     Inv-loop
     μ-loop
+    load-requires
     add-round-key-requires
     loop-holds
     add-n
     round-requires
     loop-less
     loop-again
-    substitute-requires
-    shift-rows-requires
+    shift-requires
     add-round-key-requires-2
+    store-requires
     returns)

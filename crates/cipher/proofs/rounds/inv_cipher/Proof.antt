@@ -6,15 +6,19 @@ use native.Mathlib.Omega.{arith}
 use Rattle.cipher.specs.Block.{_⊕_}
 use Rattle.cipher.specs.Aes.{invSbox, invSubBytes, roundKey, invRounds, invCipher}
 use Rattle.cipher.proofs.RoundTrip.{invRounds-less}
+use Rattle.cipher.specs.Words.{stateOf}
 use borrow.Author.Needs.{needs}
 use Rattle.cipher.proofs.rounds.inv_cipher.Statement.{statement}
 use Rattle.cipher.proofs.rounds.inv_cipher.Tie as tie
 
 abbrev Inv-loop : tie.InvT-loop
-Inv-loop t w s₀ n₀ s n = (n ≤ 9) × (invRounds w n s ≡ invRounds w 9 s₀)
+Inv-loop t w s₀ n₀ s n = (n ≤ 9) × (invRounds w n (stateOf (s .a) (s .b) (s .c) (s .d)) ≡ invRounds w 9 (stateOf (s₀ .a) (s₀ .b) (s₀ .c) (s₀ .d)))
 
 abbrev μ-loop : tie.MeasureT-loop
 μ-loop t w s₀ n₀ s n = n
+
+load-requires : tie.Need-load-requires Inv-loop μ-loop
+load-requires c κs = search needs
 
 add-round-key-requires : tie.Need-add-round-key-requires Inv-loop μ-loop
 add-round-key-requires c κs = search needs
@@ -34,29 +38,32 @@ loop-less c = search needs
 loop-again : tie.Need-loop-again Inv-loop μ-loop
 loop-again c =
     let l = c .before .before in
-    let w = l .before .before .args .w .now in
-    (omega arith, invRounds-less w (l .loop .n) (l .loop .s) _ (c .before .loop-test .taken) (c .inv-round .ensures) ∙ l .loop .inv .1)
+    let w = l .before .before .before .args .w .now in
+    (omega arith, invRounds-less w (l .loop .n) _ _ (c .before .loop-test .taken) (c .inv-round .ensures) ∙ l .loop .inv .1)
 
-inv-shift-rows-requires : tie.Need-inv-shift-rows-requires Inv-loop μ-loop
-inv-shift-rows-requires c κs = search needs
-
-substitute-requires : tie.Need-substitute-requires Inv-loop μ-loop
-substitute-requires c κs = search needs
+inv-shift-requires : tie.Need-inv-shift-requires Inv-loop μ-loop
+inv-shift-requires c κs = search needs
 
 add-round-key-requires-2 : tie.Need-add-round-key-requires-2 Inv-loop μ-loop
 add-round-key-requires-2 c κs = search needs
+
+store-requires : tie.Need-store-requires Inv-loop μ-loop
+store-requires c κs = search needs
 
 returns : tie.Need-returns Inv-loop μ-loop
 unfolding invCipher invSubBytes invRounds
 returns c =
     let l = c .before .before .before .before in
-    let d = l .before .before in
+    let d = l .before .before .before in
+    let s = l .loop .s in
     let w = d .args .w .now in
     let e : 0 ≡ l .loop .n = omega arith in
-    c .add-round-key2 .ensures
-    ∙ ap (λ (s : List ℕ). s ⊕ roundKey w 0)
-    (c .before .substitute .ensures invSbox (d .pre .0) ∙ ap invSubBytes (c .before .before .inv-shift-rows .ensures))
-    ∙ ap (λ (n : ℕ). invRounds w n (l .loop .s)) e ∙ l .loop .inv .1 ∙ ap (invRounds w 9) (l .before .add-round-key .ensures)
+    c .store .ensures
+    ∙ c .before .add-round-key2 .ensures
+    ∙ ap (λ (s : List ℕ). s ⊕ roundKey w 0) (c .before .before .inv-shift .ensures invSbox (d .pre .0))
+    ∙ ap (λ (n : ℕ). invRounds w n (stateOf (s .a) (s .b) (s .c) (s .d))) e
+    ∙ l .loop .inv .1
+    ∙ ap (invRounds w 9) (l .before .add-round-key .ensures ∙ ap (λ (s : List ℕ). s ⊕ roundKey w 10) (l .before .before .load .ensures))
 
 pub inv-cipher-spec : {M : Type 1} → statement M
 inv-cipher-spec =
@@ -64,13 +71,14 @@ inv-cipher-spec =
     (tie.spec
     Inv-loop
     μ-loop
+    load-requires
     add-round-key-requires
     loop-holds
     inv-round-requires
     sub-n
     loop-less
     loop-again
-    inv-shift-rows-requires
-    substitute-requires
+    inv-shift-requires
     add-round-key-requires-2
+    store-requires
     returns)

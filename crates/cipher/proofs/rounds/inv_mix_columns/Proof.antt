@@ -1,107 +1,30 @@
--- Each turn writes one byte of its column (States).
-use mathlib.Core.Path.{_≡_, refl, _∙_}
-use Prim.Native.Nat.{_-_, _≤_}
-use native.Mathlib.Omega.{arith}
-use lib.ListN.{length}
-use Rattle.cipher.proofs.Loop.{part, part-turn, part-done}
-use Rattle.cipher.specs.Aes.{columnwise, invMixed, invMixColumns}
-use Rattle.cipher.proofs.States.{columnwise-at, columnwise-length}
+-- A column at a time (WordLaws).
+use Rattle.cipher.proofs.WordLaws.{mixed-columns}
+use Rattle.cipher.specs.Aes.{invMixed, invMixColumns}
 use borrow.Author.Needs.{needs}
 use Rattle.cipher.proofs.rounds.inv_mix_columns.Statement.{statement}
 use Rattle.cipher.proofs.rounds.inv_mix_columns.Tie as tie
 
-abbrev Inv-loop : tie.InvT-loop
-Inv-loop s r₀ i₀ r i = (i ≤ 16) × (r ≡ part i (columnwise invMixed s) r₀)
-
-abbrev μ-loop : tie.MeasureT-loop
-μ-loop s r₀ i₀ r i = 16 - i
-
-loop-holds : tie.Need-loop-holds Inv-loop μ-loop
-loop-holds c = (omega arith, refl)
-
-mul-top : tie.Need-mul-top Inv-loop μ-loop
-mul-top c = search needs
-
-array-read-inv-mix : tie.Need-array-read-inv-mix Inv-loop μ-loop
-array-read-inv-mix c = search needs
-
-add-inv-mix : tie.Need-add-inv-mix Inv-loop μ-loop
-add-inv-mix c = search needs
-
-add-inv-mix-2 : tie.Need-add-inv-mix-2 Inv-loop μ-loop
-add-inv-mix-2 c = search needs
-
-array-read-inv-mix-2 : tie.Need-array-read-inv-mix-2 Inv-loop μ-loop
-array-read-inv-mix-2 c = search needs
-
-add-inv-mix-3 : tie.Need-add-inv-mix-3 Inv-loop μ-loop
-add-inv-mix-3 c = search needs
-
-add-inv-mix-4 : tie.Need-add-inv-mix-4 Inv-loop μ-loop
-add-inv-mix-4 c = search needs
-
-array-read-inv-mix-3 : tie.Need-array-read-inv-mix-3 Inv-loop μ-loop
-array-read-inv-mix-3 c = search needs
-
-add-inv-mix-5 : tie.Need-add-inv-mix-5 Inv-loop μ-loop
-add-inv-mix-5 c = search needs
-
-add-inv-mix-6 : tie.Need-add-inv-mix-6 Inv-loop μ-loop
-add-inv-mix-6 c = search needs
-
-array-read-inv-mix-4 : tie.Need-array-read-inv-mix-4 Inv-loop μ-loop
-array-read-inv-mix-4 c = search needs
-
-inv-mix-requires : tie.Need-inv-mix-requires Inv-loop μ-loop
+inv-mix-requires : tie.Need-inv-mix-requires
 inv-mix-requires c κs = search needs
 
-array-write-r : tie.Need-array-write-r Inv-loop μ-loop
-array-write-r c = search needs
+inv-mix-requires-2 : tie.Need-inv-mix-requires-2
+inv-mix-requires-2 c κs = search needs
 
-add-i : tie.Need-add-i Inv-loop μ-loop
-add-i c = search needs
+inv-mix-requires-3 : tie.Need-inv-mix-requires-3
+inv-mix-requires-3 c κs = search needs
 
-loop-less : tie.Need-loop-less Inv-loop μ-loop
-loop-less c = search needs
+inv-mix-requires-4 : tie.Need-inv-mix-requires-4
+inv-mix-requires-4 c κs = search needs
 
-loop-again : tie.Need-loop-again Inv-loop μ-loop
-loop-again c =
-    let l = c .before .before in
-    let s = l .before .args .t1 in
-    let h : length s ≡ 16 = search needs in
-    let i = l .loop .i in (
-      omega arith,
-      part-turn i (columnwise invMixed s) _ _ _ (l .loop .inv .1) (omega arith) (omega (arith, columnwise-length invMixed s))
-          (c .inv-mix .ensures ∙ columnwise-at invMixed s i (omega arith)),
-    )
-
-returns : tie.Need-returns Inv-loop μ-loop
+returns : tie.Need-returns
 unfolding invMixColumns
 returns c =
-    let s = c .before .before .args .t1 in
-    part-done 16 (c .before .loop .i) (columnwise invMixed s) _ _ (c .before .loop .inv .1) (c .loop-test .left) (columnwise-length invMixed s) refl
+    let s = c .before .before .before .before .args .s in
+    mixed-columns invMixed (s .a) (s .b) (s .c) (s .d) _ _ _ _
+    (c .before .before .before .inv-mix .ensures) (c .before .before .inv-mix2 .ensures) (c .before .inv-mix3 .ensures) (c .inv-mix4 .ensures)
 
 pub inv-mix-columns-spec : {M : Type 1} → statement M
 inv-mix-columns-spec =
     tie.close
-    (tie.spec
-    Inv-loop
-    μ-loop
-    loop-holds
-    mul-top
-    array-read-inv-mix
-    add-inv-mix
-    add-inv-mix-2
-    array-read-inv-mix-2
-    add-inv-mix-3
-    add-inv-mix-4
-    array-read-inv-mix-3
-    add-inv-mix-5
-    add-inv-mix-6
-    array-read-inv-mix-4
-    inv-mix-requires
-    array-write-r
-    add-i
-    loop-less
-    loop-again
-    returns)
+    (tie.spec inv-mix-requires inv-mix-requires-2 inv-mix-requires-3 inv-mix-requires-4 returns)

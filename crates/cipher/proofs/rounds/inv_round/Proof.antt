@@ -1,4 +1,4 @@
--- The four steps, one after the other.
+-- The steps, one after the other.
 use mathlib.Core.Path.{ap, _∙_}
 use mathlib.Core.List.{List}
 use Prim.Native.Nat.{ℕ}
@@ -8,11 +8,8 @@ use borrow.Author.Needs.{needs}
 use Rattle.cipher.proofs.rounds.inv_round.Statement.{statement}
 use Rattle.cipher.proofs.rounds.inv_round.Tie as tie
 
-inv-shift-rows-requires : tie.Need-inv-shift-rows-requires
-inv-shift-rows-requires c κs = search needs
-
-substitute-requires : tie.Need-substitute-requires
-substitute-requires c κs = search needs
+inv-shift-requires : tie.Need-inv-shift-requires
+inv-shift-requires c κs = search needs
 
 add-round-key-requires : tie.Need-add-round-key-requires
 add-round-key-requires c κs = search needs
@@ -23,18 +20,11 @@ inv-mix-columns-requires c κs = search needs
 returns : tie.Need-returns
 unfolding invSubBytes
 returns c =
-    let d = c .before .before .before .before in
+    let d = c .before .before .before in
     c .inv-mix-columns .ensures
     ∙ ap invMixColumns (c .before .add-round-key .ensures
-    ∙ ap (λ (s : List ℕ). s ⊕ roundKey (d .args .w .now) (d .args .n))
-    (c .before .before .substitute .ensures invSbox (d .pre .0) ∙ ap invSubBytes (c .before .before .before .inv-shift-rows .ensures)))
+    ∙ ap (λ (s : List ℕ). s ⊕ roundKey (d .args .w .now) (d .args .n)) (c .before .before .inv-shift .ensures invSbox (d .pre .0)))
 
 pub inv-round-spec : {M : Type 1} → statement M
 inv-round-spec =
-    tie.close
-    (tie.spec
-    inv-shift-rows-requires
-    substitute-requires
-    add-round-key-requires
-    inv-mix-columns-requires
-    returns)
+    tie.close (tie.spec inv-shift-requires add-round-key-requires inv-mix-columns-requires returns)

@@ -1,18 +1,15 @@
--- The four steps, one after the other.
+-- The steps, one after the other.
 use mathlib.Core.Path.{ap, _∙_}
 use mathlib.Core.List.{List}
 use Prim.Native.Nat.{ℕ}
 use Rattle.cipher.specs.Block.{_⊕_}
-use Rattle.cipher.specs.Aes.{sbox, subBytes, shiftRows, mixColumns, roundKey}
+use Rattle.cipher.specs.Aes.{sbox, subBytes, mixColumns, roundKey}
 use borrow.Author.Needs.{needs}
 use Rattle.cipher.proofs.rounds.round.Statement.{statement}
 use Rattle.cipher.proofs.rounds.round.Tie as tie
 
-substitute-requires : tie.Need-substitute-requires
-substitute-requires c κs = search needs
-
-shift-rows-requires : tie.Need-shift-rows-requires
-shift-rows-requires c κs = search needs
+shift-requires : tie.Need-shift-requires
+shift-requires c κs = search needs
 
 mix-columns-requires : tie.Need-mix-columns-requires
 mix-columns-requires c κs = search needs
@@ -23,18 +20,11 @@ add-round-key-requires c κs = search needs
 returns : tie.Need-returns
 unfolding subBytes
 returns c =
-    let d = c .before .before .before .before in
+    let d = c .before .before .before in
     c .add-round-key .ensures
     ∙ ap (λ (s : List ℕ). s ⊕ roundKey (d .args .w .now) (d .args .n))
-    (c .before .mix-columns .ensures ∙ ap mixColumns (c .before .before .shift-rows .ensures
-    ∙ ap shiftRows (c .before .before .before .substitute .ensures sbox (d .pre .0))))
+    (c .before .mix-columns .ensures ∙ ap mixColumns (c .before .before .shift .ensures sbox (d .pre .0)))
 
 pub round-spec : {M : Type 1} → statement M
 round-spec =
-    tie.close
-    (tie.spec
-    substitute-requires
-    shift-rows-requires
-    mix-columns-requires
-    add-round-key-requires
-    returns)
+    tie.close (tie.spec shift-requires mix-columns-requires add-round-key-requires returns)

@@ -7,14 +7,14 @@ use Rattle.cipher.proofs.Loop.{part, part-turn, part-done}
 use lib.ListN.{length-drop, length-take}
 use lib.Seq.{getD-take, getD-drop}
 use borrow.Author.Needs.{needs}
-use Rattle.cipher.proofs.parts.within.Statement.{statement}
-use Rattle.cipher.proofs.parts.within.Tie as tie
+use Rattle.cipher.proofs.block.block_at.Statement.{statement}
+use Rattle.cipher.proofs.block.block_at.Tie as tie
 
 abbrev Inv-loop : tie.InvT-loop
-Inv-loop m at r₀ i₀ r i = (i ≤ 16) × (r ≡ part i (take 16 (drop at m)) r₀)
+Inv-loop s at r₀ i₀ r i = (i ≤ 16) × (r ≡ part i (take 16 (drop at s)) r₀)
 
 abbrev μ-loop : tie.MeasureT-loop
-μ-loop m at r₀ i₀ r i = 16 - i
+μ-loop s at r₀ i₀ r i = 16 - i
 
 loop-holds : tie.Need-loop-holds Inv-loop μ-loop
 loop-holds c = (omega arith, refl)
@@ -37,24 +37,24 @@ loop-less c = search needs
 loop-again : tie.Need-loop-again Inv-loop μ-loop
 loop-again c =
     let l = c .before .before in
-    let m = l .before .args .m .now in
+    let s = l .before .args .s .now in
     let at = l .before .args .at in
     let i = l .loop .i in
-    let n : length (take 16 (drop at m)) ≡ 16 = simp (length-take, length-drop) (omega arith) in (
+    let n : length (take 16 (drop at s)) ≡ 16 = simp (length-take, length-drop) (omega arith) in (
       omega arith,
-      part-turn i (take 16 (drop at m)) _ _ _ (l .loop .inv .1) (omega arith) (omega arith)
-          (sym (getD-take 16 (drop at m) i 0 (omega arith) ∙ getD-drop at m i 0)),
+      part-turn i (take 16 (drop at s)) _ _ _ (l .loop .inv .1) (omega arith) (omega arith)
+          (sym (getD-take 16 (drop at s) i 0 (omega arith) ∙ getD-drop at s i 0)),
     )
 
 returns : tie.Need-returns Inv-loop μ-loop
 returns c =
-    let m = c .before .before .args .m .now in
+    let s = c .before .before .args .s .now in
     let at = c .before .before .args .at in
-    let n : length (take 16 (drop at m)) ≡ 16 = simp (length-take, length-drop) (omega arith) in
-    part-done 16 (c .before .loop .i) (take 16 (drop at m)) _ _ (c .before .loop .inv .1) (c .loop-test .left) n refl
+    let n : length (take 16 (drop at s)) ≡ 16 = simp (length-take, length-drop) (omega arith) in
+    part-done 16 (c .before .loop .i) (take 16 (drop at s)) _ _ (c .before .loop .inv .1) (c .loop-test .left) n refl
 
-pub within-spec : {M : Type 1} → statement M
-within-spec =
+pub block-at-spec : {M : Type 1} → statement M
+block-at-spec =
     tie.close
     (tie.spec
     Inv-loop

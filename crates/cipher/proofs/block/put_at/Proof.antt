@@ -1,8 +1,8 @@
--- The part from `at` on comes back with the block in front (part-back).
+-- The part from `at` on comes back with the block in front (Loop).
+use Rattle.cipher.proofs.Loop.{part-back}
 use borrow.Author.Needs.{needs}
-use Rattle.bench.proofs.Laws.{part-back}
-use Rattle.bench.proofs.put_at.Statement.{statement}
-use Rattle.bench.proofs.put_at.Tie as tie
+use Rattle.cipher.proofs.block.put_at.Statement.{statement}
+use Rattle.cipher.proofs.block.put_at.Tie as tie
 
 sub-put : tie.Need-sub-put
 sub-put c = search needs
@@ -23,4 +23,5 @@ returns : tie.Need-returns
 returns c = search (needs, part-back)
 
 pub put-at-spec : {M : Type 1} → statement M
-put-at-spec = tie.close (tie.spec sub-put part-put-start part-put-end put-requires same-length returns)
+put-at-spec =
+    tie.close (tie.spec sub-put part-put-start part-put-end put-requires same-length returns)

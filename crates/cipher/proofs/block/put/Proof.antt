@@ -1,0 +1,68 @@
+-- Each turn writes one byte; what is behind stays (Loop).
+use mathlib.Core.Path.{_≡_, refl, _∙_}
+use Prim.Native.Nat.{_-_, _≤_}
+use native.Mathlib.Omega.{arith}
+use lib.ListN.{length}
+use Rattle.cipher.proofs.Loop.{part, part-front, part-turn}
+use lib.ListN.{length-set}
+use borrow.Author.Needs.{needs}
+use Rattle.cipher.proofs.block.put.Statement.{statement}
+use Rattle.cipher.proofs.block.put.Tie as tie
+
+abbrev Inv-loop : tie.InvT-loop
+Inv-loop out₀ block i₀ out i = (i ≤ 16) × (length out ≡ length out₀) × (out ≡ part i block out₀)
+
+abbrev μ-loop : tie.MeasureT-loop
+μ-loop out₀ block i₀ out i = 16 - i
+
+loop-holds : tie.Need-loop-holds Inv-loop μ-loop
+loop-holds c = (omega arith, refl, refl)
+
+array-read-out : tie.Need-array-read-out Inv-loop μ-loop
+array-read-out c = search needs
+
+slice-write-out : tie.Need-slice-write-out Inv-loop μ-loop
+slice-write-out c = search needs
+
+add-i : tie.Need-add-i Inv-loop μ-loop
+add-i c = search needs
+
+loop-less : tie.Need-loop-less Inv-loop μ-loop
+loop-less c = search needs
+
+loop-again : tie.Need-loop-again Inv-loop μ-loop
+loop-again c =
+    let l = c .before in
+    let d = l .before in
+    let block = d .args .t2 in
+    let h : length block ≡ 16 = search needs in
+    let i = l .loop .i in (
+      omega arith,
+      length-set (l .loop .out) i _ ∙ l .loop .inv .1,
+      part-turn i block _ (l .loop .out) _ (l .loop .inv .2) (omega arith) (omega arith) refl,
+    )
+
+same-length : tie.Need-same-length Inv-loop μ-loop
+same-length c = search needs
+
+returns : tie.Need-returns Inv-loop μ-loop
+returns c =
+    let l = c .before in
+    let block = l .before .args .t2 in
+    let h : length block ≡ 16 = search needs in
+    part-front 16 (l .loop .i) block _ (l .loop .out) (l .loop .inv .2) (omega arith) h
+
+pub put-spec : {M : Type 1} → statement M
+put-spec =
+    tie.close
+    (tie.spec
+    Inv-loop
+    μ-loop
+    loop-holds
+    array-read-out
+    slice-write-out
+    add-i
+    loop-less
+    loop-again
+    same-length
+    returns)
