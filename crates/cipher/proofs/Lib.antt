@@ -11,4 +11,5 @@ pub mod WordLaws
 pub mod RoundTrip
 pub mod Doubling
 pub mod Chain
+pub mod BenchCards
 pub mod Laws

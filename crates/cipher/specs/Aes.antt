@@ -5,7 +5,7 @@ use lib.Dec.{eqb}
 use lib.ListN.{getD, take, drop}
 use lib.Bits.{bitXor}
 use Rattle.cipher.specs.Block.{if_then_else_, _⊕_, tabulate}
-use Rattle.cipher.specs.Field.{xtimes, _•_, power, inverse}
+use Rattle.cipher.specs.Field.{_•_, power, inverse}
 
 -- 3.4: the byte of a state in row r and column c; a state is its 16 bytes, column by column
 abbrev pub cell : List ℕ → ℕ → ℕ → ℕ

@@ -1,0 +1,10 @@
+-- The laws about test matrices that the crates above cite.
+pub mod Booleans
+pub mod Counting
+pub mod Listing
+pub mod Pigeonhole
+pub mod Sums
+pub mod Reports
+pub mod Detection
+pub mod Rejects
+pub mod Rowwise

@@ -1,0 +1,43 @@
+-- What demand 3, as `Detects` states it, rules out by itself, whatever the family and the code: a report that names every item, one that
+-- names none, and one that always says "beyond". And how the statement passes to what is equal to it or asks for more.
+use mathlib.Core.Path.{_≡_, refl, sym, ap, _∙_}
+use mathlib.Core.Bool.{Bool, true, false, not, _&&_}
+use Prim.Native.Nat.{ℕ, _+_, _≤_, _<_}
+use native.Mathlib.Omega.{arith}
+use Rattle.incidence.specs.Count.{count}
+use Rattle.incidence.specs.Report.{number}
+use Rattle.incidence.specs.Detection.{Detects}
+use Rattle.incidence.specs.declared.Answer.{Answer}
+use Rattle.incidence.specs.declared.Answer.the-variants.{Intact, Beyond}
+use Rattle.incidence.proofs.Booleans.{not-both}
+use Rattle.incidence.proofs.Counting.{Found, found}
+
+module _ (d n : ℕ) (C : Type 0) (changed : ℕ → Bool) (said : Answer) where
+  -- an unchanged item, and no more changes than the limit
+  pub not-all-named : (j : ℕ) → 1 ≤ j → j ≤ n → changed j ≡ false → count changed n ≤ d → Detects d n C changed (λ i. true) said → ⊥
+  not-all-named j l u same few D = not-both true refl (D .spares few j l u same)
+
+  -- a changed item, and no row that cancels
+  pub not-none-named : C → 0 < count changed n → Detects d n C changed (λ i. false) said → ⊥
+  not-none-named c h D =
+      let f : Found changed n = found changed n h in
+      not-both false (D .finds c (f .at) (f .low) (f .high) (f .passes)) refl
+
+-- an unchanged message
+pub not-always-beyond : (d n : ℕ) (C : Type 0) (changed marked : ℕ → Bool) → C → count changed n ≡ 0 → Detects d n C changed marked Beyond → ⊥
+not-always-beyond d n C changed marked c none D =
+    let e : number Beyond ≡ number Intact = ap number (D .intact c .1 none) in omega arith
+
+-- ---- passing on
+
+module _ (d n : ℕ) (C E : Type 0) (changed marked other : ℕ → Bool) (said : Answer) where
+  -- where E is at least as much as C, and the same items are marked
+  pub detects-as : (E → C) → ((j : ℕ) → 1 ≤ j → j ≤ n → other j ≡ marked j) → Detects d n C changed marked said → Detects d n E changed other said
+  detects-as f same D = record {
+    spares = λ few j l u e. same j l u ∙ D .spares few j l u e;
+    finds = λ x j l u e. same j l u ∙ D .finds (f x) j l u e;
+    exact = λ x few j l u. same j l u ∙ D .exact (f x) few j l u;
+    intact = λ x. D .intact (f x);
+    named = λ x. D .named (f x);
+    beyond = λ x. D .beyond (f x);
+  }

@@ -1,0 +1,65 @@
+-- A family of rows (000, sections 2.2 and 4.3): the extended test matrix, its disjunctness, the tagged rows, and how the others are made
+-- of them. Everything above the planes speaks of these names alone. Assumes nothing.
+use mathlib.Core.Path.{_≡_}
+use mathlib.Core.Bool.{Bool, true, false, xor}
+use mathlib.Core.List.{List, [], _∷_}
+use Prim.Native.Nat.{ℕ, _≤_, _<_}
+use Rattle.incidence.specs.Count.{count, listed}
+
+-- 000, 4.3: the matrix with its extension rule. Items, rows and tags are numbered from 1.
+pub record Family : Type 0 where
+  -- how many items there are (document 01: cards m), rows (000: v) and tags (t), and the disjunctness (document 01: limit d)
+  pub items : ℕ
+  pub rows : ℕ
+  pub tags : ℕ
+  pub limit : ℕ
+  -- whether row i holds item j
+  pub on : ℕ → ℕ → Bool
+  -- the row that tag k is of, and the tag of row i, 0 where it has none
+  pub rowOfTag : ℕ → ℕ
+  pub tagOfRow : ℕ → ℕ
+  -- for a row without a tag, earlier rows whose XOR it is
+  pub made : ℕ → List ℕ
+
+-- the rows that hold item j, and the items that row i holds, rising
+unfoldable pub rowsOf : Family → ℕ → List ℕ
+rowsOf F j = listed (λ i. F .on i j) (F .rows)
+
+unfoldable pub itemsOf : Family → ℕ → List ℕ
+itemsOf F i = listed (F .on i) (F .items)
+
+-- a row that holds item j and no item of the set
+pub record Separates (F : Family) (set : ℕ → Bool) (j : ℕ) : Type 0 where
+  pub row : ℕ
+  pub low : 1 ≤ row
+  pub high : row ≤ F .rows
+  pub holds : F .on row j ≡ true
+  pub spares : (k : ℕ) → 1 ≤ k → k ≤ F .items → set k ≡ true → F .on row k ≡ false
+
+-- 000, 2.2: d-disjunct. For any d or fewer items and another one, some row holds that one and none of them.
+abbrev pub Disjunct : Family → ℕ → Type 0
+Disjunct F d =
+    (set : ℕ → Bool) → count set (F .items) ≤ d → (j : ℕ) → 1 ≤ j → j ≤ F .items → set j ≡ false → Separates F set j
+
+-- the rows listed come before row i
+abbrev pub Earlier : ℕ → List ℕ → Type 0
+Earlier i [] = Unit {0}
+Earlier i (a ∷ rest) = (1 ≤ a) × (a < i) × Earlier i rest
+
+-- whether an odd number of the rows listed pass
+unfoldable pub parity : (ℕ → Bool) → List ℕ → Bool
+parity p [] = false
+parity p (a ∷ rest) = xor (p a) (parity p rest)
+
+-- what tagging and reporting rest on
+pub record Lawful (F : Family) : Type 0 where
+  pub disjunct : Disjunct F (F .limit)
+  -- each tag is of a row, and that row's tag
+  pub row-low : (k : ℕ) → 1 ≤ k → k ≤ F .tags → 1 ≤ F .rowOfTag k
+  pub row-high : (k : ℕ) → 1 ≤ k → k ≤ F .tags → F .rowOfTag k ≤ F .rows
+  pub tag-back : (k : ℕ) → 1 ≤ k → k ≤ F .tags → F .tagOfRow (F .rowOfTag k) ≡ k
+  pub tag-high : (i : ℕ) → 1 ≤ i → i ≤ F .rows → F .tagOfRow i ≤ F .tags
+  pub row-back : (i : ℕ) → 1 ≤ i → i ≤ F .rows → 1 ≤ F .tagOfRow i → F .rowOfTag (F .tagOfRow i) ≡ i
+  -- a row without a tag is the XOR of the earlier rows that it is made of: it holds the items that an odd number of them hold
+  pub earlier : (i : ℕ) → 1 ≤ i → i ≤ F .rows → F .tagOfRow i ≡ 0 → Earlier i (F .made i)
+  pub adds-up : (i j : ℕ) → 1 ≤ i → i ≤ F .rows → F .tagOfRow i ≡ 0 → 1 ≤ j → j ≤ F .items → F .on i j ≡ parity (λ a. F .on a j) (F .made i)
