@@ -1,0 +1,292 @@
+-- The message file: what each check of the code settles, and where the items of a file that is not refused lie.
+use mathlib.Core.Path.{_≡_, refl, sym, ap, ap₂, _∙_, subst}
+use mathlib.Core.Bool.{Bool, true, false, _&&_}
+use mathlib.Core.Logic.{_⊎_, inl, inr}
+use mathlib.Core.List.{List, [], _∷_}
+use Prim.Native.Nat.{ℕ, zero, suc, _+_, _-_, _≤_, _<_}
+use native.Mathlib.Nat.{not-suc-le-zero, le-of-suc-le-suc, eq-or-lt-of-le}
+use native.Mathlib.Numerals.{add-one}
+use native.Mathlib.Omega.{arith}
+use lib.Dec.{eqb, leb}
+use lib.ListN.{length, getD, take, drop, length-take, length-drop}
+use lib.Seq.{drop-cons}
+use denote.Ref.{RefT, now, ptr}
+use borrow.Author.Tests.{leb-true, le-leb, lt-leb, eqb-true, eq-eqb, ne-eqb}
+use Rattle.cipher.specs.Block.{if_then_else_, same}
+use Rattle.cipher.specs.Number.{number}
+use Rattle.cipher.proofs.Xor.{same-true, same-eq}
+use Rattle.files.specs.declared.Refusal.{Refusal}
+use Rattle.files.specs.Refusals.{refusal, none, unless, passes, first}
+use Rattle.files.specs.Message.{number16, prefix, count, behind, start, size, refuse3, fits, refuseItems, refuse5, refuse8, fetchRefusal, fetchStart, fetchSize, PartOf}
+use Rattle.files.proofs.Passing.{first-here, first-later, rest-passes, unless-true, unless-false, unless-passes, and-left, and-right, and-true, and-false-l, and-false-r, Plain, plain-unless, plain-first}
+
+-- ---- numbers
+
+-- two bytes at a place
+pub two-at : (s : List ℕ) (at : ℕ) → at + 2 ≤ length s → getD s at 0 ∷ getD s (at + 1) 0 ∷ [] ≡ take 2 (drop at s)
+two-at s at h =
+    ap (λ (k : ℕ). getD s at 0 ∷ getD s k 0 ∷ []) (add-one at)
+    ∙ sym (ap (take 2) (drop-cons s at 0 (omega arith) ∙ ap (λ (t : List ℕ). getD s at 0 ∷ t) (drop-cons s (suc at) 0 (omega arith))))
+
+-- ---- 3
+
+different : (t : Bool) (a b : List ℕ) → (a ≡ b → t ≡ true) → t ≡ false → same a b ≡ false
+different t a b f e = go (same a b) refl
+  where
+    go : (u : Bool) → same a b ≡ u → same a b ≡ false
+    go true p = let q : t ≡ true = f (same-true a b p) in absurd (let z : _≡_ {A = ℕ} 0 1 = cc in omega arith)
+    go false p = p
+
+module _ (s : List ℕ) where
+  pub header-short : length s < 7 → refusal 3 0 ≡ refuse3 s
+  unfolding refuse3
+  header-short h = sym (unless-false _ 3 0 (and-false-l _ (same (take 5 s) prefix) (and-false-l _ (leb (length s) 65536) (lt-leb 7 (length s) h))))
+
+  pub header-long : 65536 < length s → refusal 3 0 ≡ refuse3 s
+  unfolding refuse3
+  header-long h = sym (unless-false _ 3 0 (and-false-l _ (same (take 5 s) prefix) (and-false-r (leb 7 (length s)) _ (lt-leb (length s) 65536 h))))
+
+  pub header-right : 7 ≤ length s → length s ≤ 65536 → take 5 s ≡ prefix → none ≡ refuse3 s
+  unfolding refuse3
+  header-right l u e =
+      sym (unless-true _ 3 0 (and-true _ _ (and-true _ _ (le-leb 7 (length s) l) (le-leb (length s) 65536 u)) (same-eq (take 5 s) prefix e)))
+
+  pub header-wrong : (t : Bool) → (take 5 s ≡ prefix → t ≡ true) → t ≡ false → refusal 3 0 ≡ refuse3 s
+  unfolding refuse3
+  header-wrong t f e = sym (unless-false _ 3 0 (and-false-r (leb 7 (length s) && leb (length s) 65536) _ (different t (take 5 s) prefix f e)))
+
+  pub headed : refuse3 s .number ≡ 0 → (7 ≤ length s) × (length s ≤ 65536)
+  unfolding refuse3
+  headed h =
+      let a = and-left _ (same (take 5 s) prefix) (unless-passes _ 3 0 (omega arith) h) in
+      (leb-true 7 (length s) (and-left (leb 7 (length s)) (leb (length s) 65536) a), leb-true (length s) 65536 (and-right (leb 7 (length s)) (leb (length s) 65536) a))
+
+-- ---- an item fits
+
+module _ (s : List ℕ) (at : ℕ) where
+  pub fits-not-length : length s < at + 2 → false ≡ fits s at
+  unfolding fits
+  fits-not-length h = sym (and-false-l _ (leb (number16 s at) 1024 && leb (at + 2 + number16 s at) (length s)) (lt-leb (at + 2) (length s) h))
+
+  pub fits-not-size : 1024 < number16 s at → false ≡ fits s at
+  unfolding fits
+  fits-not-size h = sym (and-false-r (leb (at + 2) (length s)) _ (and-false-l _ (leb (at + 2 + number16 s at) (length s)) (lt-leb (number16 s at) 1024 h)))
+
+  pub fits-else : at + 2 ≤ length s → number16 s at ≤ 1024 → leb (at + 2 + number16 s at) (length s) ≡ fits s at
+  unfolding fits
+  fits-else h g = sym (ap₂ (λ (a b : Bool). a && (b && leb (at + 2 + number16 s at) (length s))) (le-leb (at + 2) (length s) h) (le-leb (number16 s at) 1024 g))
+
+  pub record Fits : Type 0 where
+    pub head : at + 2 ≤ length s
+    pub small : number16 s at ≤ 1024
+    pub room : at + 2 + number16 s at ≤ length s
+
+  pub fits-so : fits s at ≡ true → Fits
+  unfolding fits
+  fits-so h =
+      let b = and-right (leb (at + 2) (length s)) _ h in
+      record {
+        head = leb-true _ _ (and-left (leb (at + 2) (length s)) _ h);
+        small = leb-true _ _ (and-left (leb (number16 s at) 1024) (leb (at + 2 + number16 s at) (length s)) b);
+        room = leb-true _ _ (and-right (leb (number16 s at) 1024) (leb (at + 2 + number16 s at) (length s)) b);
+      }
+
+-- ---- 5
+
+module _ (s : List ℕ) where
+  -- one item more
+  pub behind-more : (k at : ℕ) → at ≡ behind s k → at + 2 + number16 s at ≡ behind s (k + 1)
+  unfolding behind
+  behind-more k at e = ap (λ (a : ℕ). a + 2 + number16 s a) e ∙ ap (behind s) (sym (add-one k))
+
+  -- each takes two bytes at least
+  pub behind-low : (k : ℕ) → 7 + (k + k) ≤ behind s k
+  unfolding behind
+  behind-low zero = omega arith
+  behind-low (suc k) = omega (arith, behind-low k)
+
+  pub items-more : (k at : ℕ) (t : Bool) → refuseItems s k ≡ none → at ≡ behind s k → t ≡ fits s at → t ≡ true → refuseItems s (k + 1) ≡ none
+  unfolding refuseItems first
+  items-more k at t p e f h =
+      ap (refuseItems s) (add-one k)
+      ∙ first-later (refuseItems s k) (unless (fits s (behind s k)) 5 (suc k) ∷ []) p
+      ∙ first-later (unless (fits s (behind s k)) 5 (suc k)) [] (unless-true _ 5 (suc k) (ap (fits s) (sym e) ∙ sym f ∙ h))
+
+  stopped : (k at : ℕ) (t : Bool) → refuseItems s k ≡ none → at ≡ behind s k → t ≡ fits s at → t ≡ false → refuseItems s (suc k) ≡ refusal 5 (suc k)
+  unfolding refuseItems
+  stopped k at t p e f h =
+      let u = unless-false (fits s (behind s k)) 5 (suc k) (ap (fits s) (sym e) ∙ sym f ∙ h) in
+      first-later (refuseItems s k) _ p
+      ∙ ap (λ (r : Refusal). first (r ∷ [])) u ∙ first-here (refusal 5 (suc k)) [] (λ (z : 5 ≡ 0). omega arith)
+
+  -- a refusal stays, however many items there are
+  stays : (n k : ℕ) (r : Refusal) → (r .number ≡ 0 → ⊥) → refuseItems s k ≡ r → k ≤ n → refuseItems s n ≡ r
+  unfolding refuseItems
+  stays zero k r h e l = let z : k ≡ 0 = omega arith in ap (refuseItems s) (sym z) ∙ e
+  stays (suc n) k r h e l = go (eq-or-lt-of-le l) (λ (b : k ≤ n). stays n k r h e b)
+    where
+      go : (k ≡ suc n) ⊎ (k < suc n) → (k ≤ n → refuseItems s n ≡ r) → refuseItems s (suc n) ≡ r
+      go (inl q) f = ap (refuseItems s) (sym q) ∙ e
+      go (inr q) f =
+          let p = f (le-of-suc-le-suc q) in
+          ap (λ (x : Refusal). first (x ∷ unless (fits s (behind s n)) 5 (suc n) ∷ [])) p ∙ first-here r _ h
+
+  pub items-stop : (k at n : ℕ) (t : Bool) → refuseItems s k ≡ none → at ≡ behind s k → t ≡ fits s at → t ≡ false → n ≡ count s → k < n
+      → refusal 5 (k + 1) ≡ refuse5 s
+  unfolding refuse5
+  items-stop k at n t p e f h c l =
+      let b : suc k ≤ count s = omega arith in
+      let q = stays (count s) (suc k) (refusal 5 (suc k)) (λ (z : 5 ≡ 0). omega arith) (stopped k at t p e f h) b in
+      ap (refusal 5) (add-one k)
+      ∙ sym (ap (λ (r : Refusal). first (r ∷ unless (eqb (behind s (count s)) (length s)) 5 (count s + 1) ∷ [])) q ∙ first-here (refusal 5 (suc k)) _ (λ (z : 5 ≡ 0). omega arith))
+
+  ended : (k at n : ℕ) → refuseItems s k ≡ none → at ≡ behind s k → n ≡ count s → k ≡ n
+      → refuse5 s ≡ first (unless (eqb at (length s)) 5 (n + 1) ∷ [])
+  unfolding refuse5
+  ended k at n p e c q =
+      let z = ap (refuseItems s) (sym (q ∙ c)) ∙ p in
+      first-later (refuseItems s (count s)) _ z
+      ∙ (λ i. first (unless (eqb ((ap (behind s) (sym (q ∙ c)) ∙ sym e) i) (length s)) 5 (sym c i + 1) ∷ []))
+
+  pub items-whole : (k at n : ℕ) → refuseItems s k ≡ none → at ≡ behind s k → n ≡ count s → k ≤ n → n ≤ k → at ≡ length s → none ≡ refuse5 s
+  unfolding first
+  items-whole k at n p e c a b h =
+      let q : k ≡ n = omega arith in
+      sym (ended k at n p e c q ∙ first-later (unless (eqb at (length s)) 5 (n + 1)) [] (unless-true _ 5 (n + 1) (eq-eqb at (length s) h)))
+
+  pub items-over : (k at n : ℕ) → refuseItems s k ≡ none → at ≡ behind s k → n ≡ count s → k ≤ n → n ≤ k → (at ≡ length s → ⊥) → refusal 5 (n + 1) ≡ refuse5 s
+  items-over k at n p e c a b h =
+      let q : k ≡ n = omega arith in
+      sym (ended k at n p e c q
+      ∙ ap (λ (r : Refusal). first (r ∷ [])) (unless-false (eqb at (length s)) 5 (n + 1) (ne-eqb at (length s) h))
+      ∙ first-here (refusal 5 (n + 1)) [] (λ (z : 5 ≡ 0). omega arith))
+
+  -- every item of a file that is not refused fits
+  items-fit : (n k : ℕ) → refuseItems s n .number ≡ 0 → k < n → Fits s (behind s k)
+  unfolding refuseItems
+  items-fit zero k h l = absurd (not-suc-le-zero l)
+  items-fit (suc n) k h l = go (eq-or-lt-of-le (le-of-suc-le-suc l)) (λ (b : k < n). items-fit n k (both .0) b)
+    where
+      both : (refuseItems s n .number ≡ 0) × (first (unless (fits s (behind s n)) 5 (suc n) ∷ []) .number ≡ 0)
+      both = rest-passes (refuseItems s n) _ h
+
+      here : fits s (behind s n) ≡ true
+      here = unless-passes _ 5 (suc n) (omega arith) (rest-passes (unless (fits s (behind s n)) 5 (suc n)) [] (both .1) .0)
+
+      go : (k ≡ n) ⊎ (k < n) → (k < n → Fits s (behind s k)) → Fits s (behind s k)
+      go (inl q) f = fits-so s (behind s k) (ap (λ (j : ℕ). fits s (behind s j)) q ∙ here)
+      go (inr q) f = f q
+
+  pub item-fits : (k : ℕ) → refuse5 s .number ≡ 0 → k < count s → Fits s (behind s k)
+  unfolding refuse5
+  item-fits k h l = items-fit (count s) k (rest-passes (refuseItems s (count s)) _ h .0) l
+
+  -- and they end where the file ends
+  pub items-end : refuse5 s .number ≡ 0 → behind s (count s) ≡ length s
+  unfolding refuse5
+  items-end h =
+      let r = rest-passes (refuseItems s (count s)) _ h .1 in
+      eqb-true _ _ (unless-passes _ 5 (count s + 1) (omega arith) (rest-passes (unless (eqb (behind s (count s)) (length s)) 5 (count s + 1)) [] r .0))
+
+-- ---- what passes is none
+
+pub plain3 : (s : List ℕ) → Plain (refuse3 s)
+unfolding refuse3
+plain3 s = plain-unless ((leb 7 (length s) && leb (length s) 65536) && same (take 5 s) prefix) 3 0 (omega arith)
+
+plain-items : (s : List ℕ) (k : ℕ) → Plain (refuseItems s k)
+unfolding refuseItems
+plain-items s zero h = refl
+plain-items s (suc k) h =
+    plain-first (refuseItems s k ∷ unless (fits s (behind s k)) 5 (suc k) ∷ [])
+    (plain-items s k, (plain-unless (fits s (behind s k)) 5 (suc k) (omega arith), tt)) h
+
+pub plain5 : (s : List ℕ) → Plain (refuse5 s)
+unfolding refuse5
+plain5 s =
+    plain-first (refuseItems s (count s) ∷ unless (eqb (behind s (count s)) (length s)) 5 (count s + 1) ∷ [])
+    (plain-items s (count s), (plain-unless (eqb (behind s (count s)) (length s)) 5 (count s + 1) (omega arith), tt))
+
+-- ---- Fetch
+
+number-of : (r q : Refusal) → r ≡ q → r .number ≡ 0 → q .number ≡ 0
+number-of r q e h = ap (λ (x : Refusal). x .number) (sym e) ∙ h
+
+module _ (s : List ℕ) (j : ℕ) (head : Refusal) (eh : head ≡ refuse3 s) where
+  pub fetch-header : (head .number ≡ 0 → ⊥) → head ≡ fetchRefusal s j
+  unfolding fetchRefusal
+  fetch-header h = sym (ap (λ (r : Refusal). first (r ∷ refuse5 s ∷ refuse8 (count s) j ∷ [])) (sym eh) ∙ first-here head _ h)
+
+  pub header-fine : head .number ≡ 0 → (7 ≤ length s) × (length s ≤ 65536)
+  header-fine h = headed s (number-of head (refuse3 s) eh h)
+
+  module _ (fine : head .number ≡ 0) (items : Refusal) (ei : items ≡ refuse5 s) where
+    past-header : fetchRefusal s j ≡ first (refuse5 s ∷ refuse8 (count s) j ∷ [])
+    unfolding fetchRefusal
+    past-header = first-later (refuse3 s) _ (plain3 s (number-of head (refuse3 s) eh fine))
+
+    pub fetch-items : (items .number ≡ 0 → ⊥) → items ≡ fetchRefusal s j
+    fetch-items h = sym (past-header ∙ ap (λ (r : Refusal). first (r ∷ refuse8 (count s) j ∷ [])) (sym ei) ∙ first-here items _ h)
+
+    module _ (whole : items .number ≡ 0) where
+      past-items : fetchRefusal s j ≡ first (refuse8 (count s) j ∷ [])
+      past-items = past-header ∙ first-later (refuse5 s) _ (plain5 s (number-of items (refuse5 s) ei whole))
+
+      pub fetch-zero : j ≡ 0 → refusal 8 0 ≡ fetchRefusal s j
+      unfolding refuse8
+      fetch-zero z =
+          let l : j < 1 = omega arith in
+          sym (past-items ∙ ap (λ (r : Refusal). first (r ∷ [])) (unless-false _ 8 0 (and-false-l _ (leb j (count s)) (lt-leb 1 j l)))
+          ∙ first-here (refusal 8 0) [] (λ (e : 8 ≡ 0). omega arith))
+
+      pub fetch-above : (n : ℕ) → n ≡ count s → n < j → refusal 8 0 ≡ fetchRefusal s j
+      unfolding refuse8
+      fetch-above n c h =
+          let l : count s < j = omega arith in
+          sym (past-items ∙ ap (λ (r : Refusal). first (r ∷ [])) (unless-false _ 8 0 (and-false-r (leb 1 j) _ (lt-leb j (count s) l)))
+          ∙ first-here (refusal 8 0) [] (λ (e : 8 ≡ 0). omega arith))
+
+      pub fetch-none : (n : ℕ) → n ≡ count s → (j ≡ 0 → ⊥) → j ≤ n → none ≡ fetchRefusal s j
+      unfolding refuse8 first
+      fetch-none n c z h =
+          let a : 1 ≤ j = omega arith in
+          let b : j ≤ count s = omega arith in
+          sym (past-items ∙ first-later (refuse8 (count s) j) [] (unless-true _ 8 0 (and-true _ _ (le-leb 1 j a) (le-leb j (count s) b))))
+
+-- a file and a number that Fetch does not refuse
+pub record Fetchable (s : List ℕ) (j : ℕ) : Type 0 where
+  pub long : 7 ≤ length s
+  pub short : length s ≤ 65536
+  pub whole : refuse5 s ≡ none
+  pub low : 1 ≤ j
+  pub high : j ≤ count s
+
+pub fetchable : (s : List ℕ) (j : ℕ) (r : Refusal) → r ≡ fetchRefusal s j → r .number ≡ 0 → Fetchable s j
+unfolding fetchRefusal refuse8
+fetchable s j r e h =
+    let a = rest-passes (refuse3 s) (refuse5 s ∷ refuse8 (count s) j ∷ []) (number-of r _ e h) in
+    let b = rest-passes (refuse5 s) (refuse8 (count s) j ∷ []) (a .1) in
+    let t = unless-passes (leb 1 j && leb j (count s)) 8 0 (omega arith) (rest-passes (refuse8 (count s) j) [] (b .1) .0) in
+    let l = headed s (a .0) in
+    record {
+      long = l .0;
+      short = l .1;
+      whole = plain5 s (b .0);
+      low = leb-true 1 j (and-left (leb 1 j) (leb j (count s)) t);
+      high = leb-true j (count s) (and-right (leb 1 j) (leb j (count s)) t);
+    }
+
+-- what Fetch gives
+module _ (s r : RefT (List ℕ)) (j : ℕ) (q : Refusal) (e : q ≡ fetchRefusal (now s) j) where
+  pub fetched : q .number ≡ 0 → (at n : ℕ) → at ≡ behind (now s) (j - 1) → n ≡ number16 (now s) at
+      → now r ≡ take (at + 2 + n - (at + 2)) (drop (at + 2) (now s)) → ptr r .0 ≡ ptr s .0 → ptr r .1 ≡ ptr s .1 + (at + 2)
+      → PartOf s (fetchStart (now s) j) (fetchSize (now s) j) r
+  unfolding fetchStart fetchSize start size
+  fetched h at n p m b k o =
+      let d : at + 2 + n - (at + 2) ≡ n = omega arith in
+      simp (← e, eq-eqb _ _ h, ← p, ← m) record { bytes = rw d at b; block = k; offset = o }
+
+  pub unfetched : (q .number ≡ 0 → ⊥) → now r ≡ take 0 (now s) → ptr r ≡ ptr s → PartOf s (fetchStart (now s) j) (fetchSize (now s) j) r
+  unfolding fetchStart fetchSize
+  unfetched h b k =
+      simp (← e, ne-eqb _ _ h) record { bytes = b; block = ap (λ (x : ℕ × ℕ). x .0) k; offset = ap (λ (x : ℕ × ℕ). x .1) k ∙ omega arith }

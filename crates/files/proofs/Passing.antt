@@ -1,0 +1,85 @@
+-- Refusals: what passes is none, and the first of a list.
+use mathlib.Core.Path.{_≡_, refl, sym, ap, ap₂, _∙_}
+use mathlib.Core.Bool.{Bool, true, false, _&&_}
+use mathlib.Core.List.{List, [], _∷_}
+use Prim.Native.Nat.{ℕ, zero, suc, _+_, _≤_, _<_}
+use native.Mathlib.Omega.{arith}
+use lib.Dec.{eqb, leb}
+use borrow.Author.Tests.{eqb-true, eqb-false, eq-eqb, ne-eqb}
+use Rattle.cipher.specs.Block.{if_then_else_}
+use Rattle.files.specs.declared.Refusal.{Refusal}
+use Rattle.files.specs.Refusals.{refusal, none, unless, passes, first}
+
+-- ---- first
+
+pub first-here : (r : Refusal) (rest : List Refusal) → (r .number ≡ 0 → ⊥) → first (r ∷ rest) ≡ r
+unfolding first
+first-here r rest h = rw (ne-eqb (r .number) 0 h) refl
+
+pub first-later : (r : Refusal) (rest : List Refusal) → r ≡ none → first (r ∷ rest) ≡ first rest
+unfolding first
+first-later r rest e = ap (λ (x : Refusal). if passes x then first rest else x) e
+
+pub first-one : (r : Refusal) → r .number ≡ 0 → r ≡ none → first (r ∷ []) ≡ none
+unfolding first
+first-one r h e = first-later r [] e
+
+-- what is left of a list that passes
+pub rest-passes : (r : Refusal) (rest : List Refusal) → first (r ∷ rest) .number ≡ 0 → (r .number ≡ 0) × (first rest .number ≡ 0)
+unfolding first
+rest-passes r rest h = go (eqb (r .number) 0) refl h
+  where
+    go : (t : Bool) → eqb (r .number) 0 ≡ t → (if t then first rest else r) .number ≡ 0 → (r .number ≡ 0) × (first rest .number ≡ 0)
+    go true e p = (eqb-true (r .number) 0 e, p)
+    go false e p = absurd (eqb-false (r .number) 0 e p)
+
+-- ---- unless
+
+pub unless-true : (t : Bool) (n p : ℕ) → t ≡ true → unless t n p ≡ none
+unless-true t n p e = ap (λ (b : Bool). if b then none else refusal n p) e
+
+pub unless-false : (t : Bool) (n p : ℕ) → t ≡ false → unless t n p ≡ refusal n p
+unless-false t n p e = ap (λ (b : Bool). if b then none else refusal n p) e
+
+pub unless-passes : (t : Bool) (n p : ℕ) → 0 < n → unless t n p .number ≡ 0 → t ≡ true
+unless-passes true n p h e = refl
+unless-passes false n p h e = absurd (omega arith)
+
+-- ---- what passes is none
+
+-- a refusal of number 0 has place 0 too
+abbrev pub Plain : Refusal → Type 0
+Plain r = r .number ≡ 0 → r ≡ none
+
+pub plain-unless : (t : Bool) (n p : ℕ) → 0 < n → Plain (unless t n p)
+plain-unless true n p h e = refl
+plain-unless false n p h e = absurd (omega arith)
+
+abbrev pub AllPlain : List Refusal → Type 0
+AllPlain [] = Unit {0}
+AllPlain (r ∷ rest) = Plain r × AllPlain rest
+
+pub plain-first : (l : List Refusal) → AllPlain l → Plain (first l)
+unfolding first
+plain-first [] a h = refl
+plain-first (r ∷ rest) a h = let p = rest-passes r rest h in first-later r rest (a .0 (p .0)) ∙ plain-first rest (a .1) (p .1)
+
+-- ---- both of two tests
+
+pub and-left : (a b : Bool) → (a && b) ≡ true → a ≡ true
+and-left true b h = refl
+and-left false b h = h
+
+pub and-right : (a b : Bool) → (a && b) ≡ true → b ≡ true
+and-right true b h = h
+and-right false b h = absurd (let z : _≡_ {A = ℕ} 0 1 = cc in omega arith)
+
+pub and-true : (a b : Bool) → a ≡ true → b ≡ true → (a && b) ≡ true
+and-true a b p q = ap₂ _&&_ p q
+
+pub and-false-l : (a b : Bool) → a ≡ false → (a && b) ≡ false
+and-false-l a b p = ap (λ (x : Bool). x && b) p
+
+pub and-false-r : (a b : Bool) → b ≡ false → (a && b) ≡ false
+and-false-r true b p = p
+and-false-r false b p = refl

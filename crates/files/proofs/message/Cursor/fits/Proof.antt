@@ -1,0 +1,45 @@
+-- Each test settles it (Messages).
+use mathlib.Core.Path.{ap, _∙_}
+use Prim.Native.Nat.{ℕ, _+_}
+use native.Mathlib.Omega.{arith}
+use lib.ListN.{length}
+use Rattle.files.specs.Message.{number16}
+use Rattle.files.proofs.Messages.{fits-not-length, fits-not-size, fits-else}
+use lib.Dec.{leb}
+use borrow.Author.Needs.{needs}
+use Rattle.files.proofs.message.Cursor.fits.Statement.{statement}
+use Rattle.files.proofs.message.Cursor.fits.Tie as tie
+
+add-if1 : tie.Need-add-if1
+add-if1 c = search needs
+
+returns : tie.Need-returns
+returns c = fits-not-length (c .before .before .args .s .now) (c .before .before .args .self .at) (c .if1 .taken)
+
+number16-requires : tie.Need-number16-requires
+number16-requires c κs = search needs
+
+returns-2 : tie.Need-returns-2
+returns-2 c =
+    let d = c .before .before .before .before in
+    let n = c .before .number16 .ensures .0 in
+    fits-not-size (d .args .s .now) (d .args .self .at) (omega arith)
+
+add-result : tie.Need-add-result
+add-result c = search needs
+
+add-result-2 : tie.Need-add-result-2
+add-result-2 c = search needs
+
+returns-3 : tie.Need-returns-3
+returns-3 c =
+    let d = c .before .before .before .before in
+    let s = d .args .s .now in
+    let at = d .args .self .at in
+    let n = c .before .number16 .ensures .0 in
+    ap (λ (k : ℕ). leb (at + 2 + k) (length s)) n ∙ fits-else s at (omega arith) (omega arith)
+
+pub fits-spec : {M : Type 1} → statement M
+fits-spec =
+    tie.close
+    (tie.spec add-if1 returns number16-requires returns-2 add-result add-result-2 returns-3)

@@ -1,0 +1,3 @@
+-- The two files and what is refused of them. Definitions only: the laws about them are in proofs/.
+pub mod Refusals
+pub mod Message

@@ -1,0 +1,82 @@
+-- The message file (document 01: shelf): "letters TBS, 2-byte version 1, 2-byte count, then for each card a 2-byte length and its bytes".
+-- What is refused of it, where its items (cards) lie, and what Fetch gives. Assumes nothing.
+use mathlib.Core.Path.{_≡_}
+use mathlib.Core.Bool.{Bool, _&&_}
+use mathlib.Core.List.{List, [], _∷_}
+use Prim.Native.Nat.{ℕ, zero, suc, _+_, _-_}
+use lib.Dec.{eqb, leb}
+use lib.ListN.{length, take, drop}
+use denote.Ref.{RefT, now, ptr}
+use Rattle.cipher.specs.Block.{if_then_else_, same}
+use Rattle.cipher.specs.Number.{number}
+use Rattle.files.specs.declared.Refusal.{Refusal}
+use Rattle.files.specs.Refusals.{refusal, none, unless, passes, first}
+
+-- the 2-byte number at a place
+unfoldable pub number16 : List ℕ → ℕ → ℕ
+number16 s at = number (take 2 (drop at s))
+
+-- the letters TBS and version 1
+unfoldable pub prefix : List ℕ
+prefix = 0x54 ∷ 0x42 ∷ 0x53 ∷ 0 ∷ 1 ∷ []
+
+-- the number of items that the file says it has
+unfoldable pub count : List ℕ → ℕ
+count s = number16 s 5
+
+-- the place behind the first k items: where the length of item k + 1 stands
+unfoldable pub behind : List ℕ → ℕ → ℕ
+behind s zero = 7
+behind s (suc k) = behind s k + 2 + number16 s (behind s k)
+
+-- where the bytes of item j start, how many they are, and what they are; items are numbered from 1
+unfoldable pub start : List ℕ → ℕ → ℕ
+start s j = behind s (j - 1) + 2
+
+unfoldable pub size : List ℕ → ℕ → ℕ
+size s j = number16 s (behind s (j - 1))
+
+unfoldable pub item : List ℕ → ℕ → List ℕ
+item s j = take (size s j) (drop (start s j) s)
+
+-- ---- what is refused
+
+-- 3: "under 7 or over 65,536 bytes, or wrong letters or version"
+unfoldable pub refuse3 : List ℕ → Refusal
+refuse3 s = unless ((leb 7 (length s) && leb (length s) 65536) && same (take 5 s) prefix) 3 0
+
+-- whether an item's length, and the item behind it, lie in the file, and the length is at most 1,024
+unfoldable pub fits : List ℕ → ℕ → Bool
+fits s at = leb (at + 2) (length s) && (leb (number16 s at) 1024 && leb (at + 2 + number16 s at) (length s))
+
+-- 5 for one of the first k items, at the first that does not fit
+unfoldable pub refuseItems : List ℕ → ℕ → Refusal
+refuseItems s zero = none
+refuseItems s (suc k) = first (refuseItems s k ∷ unless (fits s (behind s k)) 5 (suc k) ∷ [])
+
+-- 5: "a length above 1,024, a card or its length running past the end, or bytes after the last card. Place: the first such card, or
+-- count+1 for bytes left over."
+unfoldable pub refuse5 : List ℕ → Refusal
+refuse5 s = first (refuseItems s (count s) ∷ unless (eqb (behind s (count s)) (length s)) 5 (count s + 1) ∷ [])
+
+-- 8: "card number 0 or above count"
+unfoldable pub refuse8 : ℕ → ℕ → Refusal
+refuse8 n j = unless (leb 1 j && leb j n) 8 0
+
+-- ---- Fetch (shelf, card number): 3, 5, 8
+
+unfoldable pub fetchRefusal : List ℕ → ℕ → Refusal
+fetchRefusal s j = first (refuse3 s ∷ refuse5 s ∷ refuse8 (count s) j ∷ [])
+
+-- where the part that Fetch gives starts, and its length: "the empty part at the shelf's front" when it refuses
+unfoldable pub fetchStart : List ℕ → ℕ → ℕ
+fetchStart s j = if passes (fetchRefusal s j) then start s j else 0
+
+unfoldable pub fetchSize : List ℕ → ℕ → ℕ
+fetchSize s j = if passes (fetchRefusal s j) then size s j else 0
+
+-- r is the part of the lent slice s from a place on, so many bytes: what it holds, and where it lies in memory
+pub record PartOf (s : RefT (List ℕ)) (at len : ℕ) (r : RefT (List ℕ)) : Type 0 where
+  pub bytes : now r ≡ take len (drop at (now s))
+  pub block : ptr r .0 ≡ ptr s .0
+  pub offset : ptr r .1 ≡ ptr s .1 + at
