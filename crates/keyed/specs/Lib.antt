@@ -1,0 +1,2 @@
+-- The keyed functions of the scheme. Definitions only: the laws about them are in proofs/.
+pub mod Keyed

@@ -1,0 +1,42 @@
+// The keyed functions of the scheme (000, section 4.3: F and G): an item's hash, and a tag from a sum and back. Callers expand their
+// keys once.
+use cipher::aes;
+use cipher::block;
+use cipher::cmac;
+use cipher::cmac::MacKey;
+ghost use mathlib.Core.Path.{_≡_};
+ghost use mathlib.Core.List.{List, _++_};
+ghost use Prim.Native.Nat.{ℕ};
+ghost use Rattle.cipher.specs.Block.{_⊕_};
+ghost use Rattle.cipher.specs.Number.{bigEndian};
+ghost use Rattle.cipher.specs.Aes.{keyExpansion, cipher, invCipher, encipher};
+ghost use Rattle.cipher.specs.Cmac.{subkey1, subkey2};
+ghost use Rattle.keyed.specs.Keyed.{itemHash, mask, tagOf, sumOfTag};
+
+// The hash of item j under a key made ready (document 01: code of card j).
+pub fn item_hash(k: MacKey, j: u64, item: &[u8]) -> [u8; 16]
+    ensures { λ r. ⌜ ((key : List ℕ) → k .schedule ≡ keyExpansion key → k .k1 ≡ subkey1 (encipher key) → k .k2 ≡ subkey2 (encipher key) → r ≡ itemHash key j (now (item .entry))) ⌝ }
+{
+    cmac::mac_of_parts(k, &block::to_be64(j), item)
+}
+
+// The mask before the first, with an expanded key: `block::double` gives each next one.
+pub fn mask_zero(w: [u8; 176]) -> [u8; 16]
+    ensures { λ r. ⌜ ((key : List ℕ) → w ≡ keyExpansion key → r ≡ mask key 0) ⌝ }
+{
+    aes::encipher_with(w, [0u8; 16])
+}
+
+// The tag of a sum, with an expanded key and the mask of its number.
+pub fn tag_of(w: [u8; 176], m: [u8; 16], sum: [u8; 16]) -> [u8; 16]
+    ensures { λ r. ⌜ ((key : List ℕ) (i : ℕ) → w ≡ keyExpansion key → m ≡ mask key i → r ≡ tagOf key i sum) ⌝ }
+{
+    block::xor(m, aes::encipher_with(w, block::xor(m, sum)))
+}
+
+// The sum that a tag was made of, with an expanded key and the mask of its number.
+pub fn sum_of_tag(w: [u8; 176], m: [u8; 16], tag: [u8; 16]) -> [u8; 16]
+    ensures { λ r. ⌜ ((key : List ℕ) (i : ℕ) → w ≡ keyExpansion key → m ≡ mask key i → r ≡ sumOfTag key i tag) ⌝ }
+{
+    block::xor(m, aes::decipher_with(w, block::xor(m, tag)))
+}
