@@ -3,9 +3,9 @@
 use mathlib.Core.Path.{_≡_}
 use mathlib.Core.Bool.{Bool, true, false, _&&_}
 use mathlib.Core.List.{List, [], _∷_}
-use Prim.Native.Nat.{ℕ, zero, suc, _<_}
+use Prim.Native.Nat.{ℕ, zero, suc, _*_, _<_}
 use lib.Dec.{eqb}
-use lib.ListN.{length, getD, replicate}
+use lib.ListN.{length, getD, take, drop, replicate}
 use lib.Bits.{bitXor}
 
 infix 1 if_then_else_
@@ -39,6 +39,10 @@ zeros n = replicate n 0
 abbrev pub tabulate : ℕ → (ℕ → ℕ) → List ℕ
 tabulate zero f = []
 tabulate (suc n) f = f 0 ∷ tabulate n (λ i. f (suc i))
+
+-- block k, from 0, of a list of blocks
+unfoldable pub slot : List ℕ → ℕ → List ℕ
+slot s k = take 16 (drop (16 * k) s)
 
 -- t is a table of f over the bytes
 abbrev pub Tabulates : List ℕ → (ℕ → ℕ) → Type 0

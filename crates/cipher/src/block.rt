@@ -68,6 +68,15 @@ pub fn put_at(out: &mut [u8], at: usize, block: [u8; 16])
     put(&mut out[at..], block);
 }
 
+// XORs a block into the one that stands at a place of out; all else stays.
+pub fn xor_at(out: &mut [u8], at: usize, block: [u8; 16])
+    requires { ⌜ at + 16 ≤ length (now out) ⌝ }
+    ensures { λ _. ⌜ now (out .exit) ≡ take at (now (out .entry)) ++ ((take 16 (drop at (now (out .entry))) ⊕ block) ++ drop (at + 16) (now (out .entry))) ⌝ }
+{
+    let sum = xor(block_at(out, at), block);
+    put_at(out, at, sum);
+}
+
 // A block shifted left by one bit as a big-endian number, with 87 hexadecimal XORed into the last byte if the bit lost was 1.
 pub fn double(b: [u8; 16]) -> [u8; 16]
     ensures { λ r. ⌜ r ≡ double b ⌝ }

@@ -1,0 +1,33 @@
+-- Read, XORed and written back.
+use mathlib.Core.Path.{ap, _∙_}
+use mathlib.Core.List.{List, _++_}
+use Prim.Native.Nat.{ℕ, _+_}
+use lib.ListN.{take, drop}
+use Rattle.cipher.specs.Block.{_⊕_}
+use borrow.Author.Needs.{needs}
+use Rattle.cipher.proofs.block.xor_at.Statement.{statement}
+use Rattle.cipher.proofs.block.xor_at.Tie as tie
+
+block-at-requires : tie.Need-block-at-requires
+block-at-requires c κs = search needs
+
+xor-requires : tie.Need-xor-requires
+xor-requires c κs = search needs
+
+put-at-requires : tie.Need-put-at-requires
+put-at-requires c κs = search needs
+
+same-length : tie.Need-same-length
+same-length c = search needs
+
+returns : tie.Need-returns
+returns c =
+    let d = c .before .before .before .before .before .before .before .before in
+    let o = d .args .out .now in
+    let at = d .args .at in
+    let e = c .before .before .before .before .xor .ensures ∙ ap (λ (t : List ℕ). t ⊕ d .args .block) (c .before .before .before .before .before .block-at .ensures) in
+    c .before .before .put-at .ensures ∙ ap (λ (t : List ℕ). take at o ++ (t ++ drop (at + 16) o)) e
+
+pub xor-at-spec : {M : Type 1} → statement M
+xor-at-spec =
+    tie.close (tie.spec block-at-requires xor-requires put-at-requires same-length returns)
