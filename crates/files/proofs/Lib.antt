@@ -1,3 +1,5 @@
 -- The laws that the proofs of this crate and those of the crates above cite.
 pub mod Passing
 pub mod Messages
+pub mod TagFiles
+pub mod Accepted

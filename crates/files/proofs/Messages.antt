@@ -30,7 +30,7 @@ two-at s at h =
 
 -- ---- 3
 
-different : (t : Bool) (a b : List ℕ) → (a ≡ b → t ≡ true) → t ≡ false → same a b ≡ false
+pub different : (t : Bool) (a b : List ℕ) → (a ≡ b → t ≡ true) → t ≡ false → same a b ≡ false
 different t a b f e = go (same a b) refl
   where
     go : (u : Bool) → same a b ≡ u → same a b ≡ false

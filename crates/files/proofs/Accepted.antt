@@ -1,0 +1,157 @@
+-- Demand 2: a tag file is accepted under a seal key exactly when its bytes are what the writer lays out and seals for some size code, count
+-- and tags.
+use mathlib.Core.Path.{_≡_, refl, sym, ap, ap₂, _∙_, subst}
+use mathlib.Core.Bool.{Bool, true, false, _&&_}
+use mathlib.Core.List.{List, [], _∷_, _++_, append-assoc}
+use Prim.Native.Nat.{ℕ, zero, suc, _+_, _-_, _*_, _≤_, _<_}
+use native.Mathlib.Omega.{arith}
+use lib.Dec.{eqb, leb}
+use lib.ListN.{length, getD, take, drop, length-append, length-take, length-drop, take-append-drop}
+use lib.Seq.{take-add, drop-cons, take-take, take-at, drop-at, take-nil, drop-nil, take-append-le, drop-append-le}
+use borrow.Author.Tests.{leb-true, le-leb, eqb-true, eq-eqb}
+use Rattle.cipher.specs.Block.{Bytes, same}
+use Rattle.cipher.specs.Number.{number, bigEndian}
+use Rattle.cipher.specs.Cmac.{cmac}
+use Rattle.cipher.proofs.Xor.{same-true, same-eq, take-bytes, drop-bytes}
+use Rattle.cipher.proofs.Numbers.{bigEndian-number, number-bigEndian, bigEndian-length}
+use Rattle.cipher.proofs.Laws.{cmac-length}
+use Rattle.incidence.specs.Family.{Family}
+use Rattle.sizes.specs.Sizes.{known, familyOf}
+use Rattle.sizes.proofs.Laws.{items-few}
+use Rattle.files.specs.declared.Refusal.{Refusal}
+use Rattle.files.specs.Refusals.{none, unless}
+use Rattle.files.specs.Message.{number16}
+use Rattle.files.specs.TagFile.{tagPrefix, header, body, sealed, fileSize, codeOf, countOf, tagsIn, bodyOf, macOf, countFits, refuse6, refuse20, Written}
+use Rattle.files.proofs.Passing.{unless-true, unless-passes, and-left, and-right, and-true}
+
+-- what is behind k elements of the first n
+drop-take : (k n : ℕ) (l : List ℕ) → drop k (take n l) ≡ take (n - k) (drop k l)
+drop-take zero n l = let e : n ≡ n - 0 = omega arith in ap (λ (m : ℕ). take m l) e
+drop-take (suc k) zero l = let e : 0 ≡ 0 - suc k = omega arith in ap (λ (m : ℕ). take m (drop (suc k) l)) e
+drop-take (suc k) (suc n) [] = sym (take-nil (suc n - suc k))
+drop-take (suc k) (suc n) (x ∷ l) = let e : n - k ≡ suc n - suc k = omega arith in drop-take k n l ∙ ap (λ (m : ℕ). take m (drop k l)) e
+
+-- ---- accepted, so laid out and sealed
+
+-- what 6 tells of a file that it does not refuse
+pub record Formed (s : List ℕ) : Type 0 where
+  pub long : 24 ≤ length s
+  pub letters : take 5 s ≡ tagPrefix
+  pub fits : countFits (codeOf s) (countOf s) ≡ true
+  pub size : length s ≡ fileSize (codeOf s)
+
+pub formed : (s : List ℕ) → refuse6 s .number ≡ 0 → Formed s
+unfolding refuse6
+formed s h =
+    let a = leb 24 (length s) in
+    let b = same (take 5 s) tagPrefix in
+    let c = countFits (codeOf s) (countOf s) in
+    let d = eqb (length s) (fileSize (codeOf s)) in
+    let t = unless-passes ((a && b) && (c && d)) 6 0 (omega arith) h in
+    let l = and-left (a && b) (c && d) t in
+    let r = and-right (a && b) (c && d) t in
+    record {
+      long = leb-true 24 (length s) (and-left a b l);
+      letters = same-true (take 5 s) tagPrefix (and-right a b l);
+      fits = and-left c d r;
+      size = eqb-true (length s) (fileSize (codeOf s)) (and-right c d r);
+    }
+
+module _ (s : List ℕ) (h : Bytes s) (F : Formed s) where
+  -- the first eight bytes
+  front : take 8 s ≡ header (codeOf s) (countOf s)
+  unfolding header codeOf countOf number16
+  front =
+      let l = F .long in
+      let two : length (take 2 (drop 6 s)) ≡ 2 = simp (length-take, length-drop) (omega arith) in
+      let n = bigEndian-number (take 2 (drop 6 s)) (take-bytes 2 (drop 6 s) (drop-bytes 6 s h)) in
+      take-add 5 3 s
+      ∙ ap₂ _++_ (F .letters) (ap (take 3) (drop-cons s 5 0 (omega arith)))
+      ∙ ap (λ (t : List ℕ). tagPrefix ++ (getD s 5 0 ∷ t)) (sym n ∙ ap (λ (k : ℕ). bigEndian k (number (take 2 (drop 6 s)))) two)
+
+  -- all before the MAC
+  whole-body : bodyOf s ≡ body (codeOf s) (countOf s) (tagsIn s)
+  unfolding bodyOf body tagsIn
+  whole-body =
+      let l = F .long in
+      let e : length s - 16 - 8 ≡ length s - 24 = omega arith in
+      sym (take-append-drop 8 (take (length s - 16) s))
+      ∙ ap₂ _++_ (take-take 8 (length s - 16) s (omega arith) ∙ front)
+      (drop-take 8 (length s - 16) s ∙ ap (λ (k : ℕ). take k (drop 8 s)) e)
+
+  pub accepted-written : (key : List ℕ) → refuse20 key s .number ≡ 0 → Written key s
+  unfolding refuse20 sealed macOf bodyOf tagsIn fileSize
+  accepted-written key q =
+      let l = F .long in
+      let z = F .size in
+      let m = same-true (macOf s) (cmac key (bodyOf s)) (unless-passes (same (macOf s) (cmac key (bodyOf s))) 20 0 (omega arith) q) in
+      record {
+        code = codeOf s;
+        count = countOf s;
+        tags = tagsIn s;
+        fits = F .fits;
+        long = simp (length-take, length-drop) (omega arith);
+        bytes = take-bytes (length s - 24) (drop 8 s) (drop-bytes 8 s h);
+        so = sym (take-append-drop (length s - 16) s) ∙ ap₂ _++_ whole-body (m ∙ ap (cmac key) whole-body);
+      }
+
+-- ---- laid out and sealed, so accepted
+
+module _ (key : List ℕ) (hk : length key ≡ 16) (c n : ℕ) (tags : List ℕ) (fit : countFits c n ≡ true) (long : length tags ≡ 16 * familyOf c .tags) where
+  file : List ℕ
+  file = sealed key (body c n tags)
+
+  body-length : length (body c n tags) ≡ 8 + 16 * familyOf c .tags
+  unfolding body header tagPrefix bigEndian
+  body-length = length-append (header c n) tags ∙ ap (λ (k : ℕ). 8 + k) long
+
+  file-length : length file ≡ fileSize c
+  unfolding file sealed fileSize
+  file-length =
+      let b = body-length in
+      let m = cmac-length key hk (body c n tags) in
+      length-append (body c n tags) (cmac key (body c n tags)) ∙ omega arith
+
+  file-long : 24 ≤ length file
+  unfolding fileSize
+  file-long = omega (arith, file-length)
+
+  file-code : codeOf file ≡ c
+  unfolding file sealed body header tagPrefix codeOf
+  file-code = refl
+
+  file-count : countOf file ≡ n
+  unfolding file sealed body header tagPrefix countOf number16 bigEndian countFits
+  file-count =
+      let u : n ≤ familyOf c .items = leb-true n (familyOf c .items) (and-right (leb 1 n) (leb n (familyOf c .items)) (and-right (known c) (leb 1 n && leb n (familyOf c .items)) fit)) in
+      number-bigEndian 2 n (omega (arith, items-few c))
+
+  file-letters : take 5 file ≡ tagPrefix
+  unfolding file sealed body header tagPrefix
+  file-letters = refl
+
+  file-formed : refuse6 file ≡ none
+  unfolding refuse6
+  file-formed =
+      unless-true _ 6 0
+      (and-true _ _ (and-true _ _ (le-leb 24 (length file) file-long) (same-eq (take 5 file) tagPrefix file-letters))
+      (and-true _ _ (ap₂ countFits file-code file-count ∙ fit) (eq-eqb (length file) (fileSize (codeOf file)) (file-length ∙ ap fileSize (sym file-code)))))
+
+  file-sealed : refuse20 key file ≡ none
+  unfolding refuse20 file sealed macOf bodyOf fileSize
+  file-sealed =
+      let b = body-length in
+      let e = file-length in
+      let k : length (body c n tags) ≡ length file - 16 = omega arith in
+      unless-true _ 20 0
+      (same-eq (macOf file) (cmac key (bodyOf file))
+      (drop-at (body c n tags) (cmac key (body c n tags)) (length file - 16) k
+      ∙ ap (cmac key) (sym (take-at (body c n tags) (cmac key (body c n tags)) (length file - 16) k))))
+
+pub written-accepted : (key s : List ℕ) → length key ≡ 16 → Written key s
+    → (refuse6 s ≡ none) × (refuse20 key s ≡ none)
+unfolding file
+written-accepted key s hk W = (
+  ap refuse6 (W .so) ∙ file-formed key hk (W .code) (W .count) (W .tags) (W .fits) (W .long),
+  ap (refuse20 key) (W .so) ∙ file-sealed key hk (W .code) (W .count) (W .tags) (W .fits) (W .long),
+)
