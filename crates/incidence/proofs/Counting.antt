@@ -1,5 +1,5 @@
 -- The laws of `count` and `any`.
-use mathlib.Core.Path.{_≡_, refl, sym, ap, ap₂, _∙_, subst}
+use mathlib.Core.Path.{_≡_, refl, sym, ap, ap₂, subst}
 use mathlib.Core.Bool.{Bool, true, false, not, _&&_, _||_, true≢false}
 use mathlib.Core.Logic.{_⊎_, inl, inr}
 use Prim.Native.Nat.{ℕ, zero, suc, _+_, _-_, _≤_, _<_}
@@ -7,7 +7,7 @@ use native.Mathlib.Omega.{arith}
 use lib.Dec.{ltb, leb}
 use borrow.Author.Tests.{ltb-true, ltb-false, leb-true, le-leb}
 use Rattle.incidence.specs.Count.{bit, count, any, inside}
-use Rattle.incidence.proofs.Booleans.{and-left, and-right, and-both, or-cases, or-first, or-second, not-both, not-passed}
+use Rattle.incidence.proofs.Booleans.{and-left, and-right, and-both, or-cases, or-first, or-second, not-passed}
 
 -- what is at most n + 1 is n + 1 or at most n
 pub last-or : (k n : ℕ) → k ≤ suc n → (k ≡ suc n) ⊎ (k ≤ n)

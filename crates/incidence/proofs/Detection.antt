@@ -11,7 +11,6 @@ use Rattle.incidence.specs.Count.{count, any}
 use Rattle.incidence.specs.Family.{Family, Separates, Lawful}
 use Rattle.incidence.specs.Report.{cleared, named, numberNamed, disagreeing, holdsNamed, unexplained, answer}
 use Rattle.incidence.specs.Detection.{Detects, QuietRowsAgree, ChangedRowsDisagree}
-use Rattle.incidence.specs.declared.Answer.{Answer}
 use Rattle.incidence.specs.declared.Answer.the-variants.{Intact, Named, Beyond}
 use Rattle.incidence.proofs.Booleans.{and-left, and-right, and-both, not-both, not-passed}
 use Rattle.incidence.proofs.Counting.{Found, last-or, found, count-ext, count-mono, count-none, count-some, any-some, any-none}

@@ -9,6 +9,7 @@ use lib.ListN.{length, getD, length-append, List·getD-append}
 use lib.Seq.{getD-at}
 use Rattle.cipher.specs.Block.{if_then_else_}
 use Rattle.incidence.specs.Count.{bit, count, listed}
+use Rattle.incidence.specs.Family.{Family, rowsOf, itemsOf}
 use Rattle.incidence.proofs.Counting.{last-or, count-before}
 use Rattle.incidence.proofs.Booleans.{not-both}
 
@@ -67,3 +68,19 @@ listed-at p (suc n) k h = go (listed-at p n k) (p (suc n)) refl
             rw (getD-at (listed p n) (suc n) [] 0 k (omega (arith, listed-length p n)))
             (record { low = omega arith; high = omega arith; passes = t; rank = omega (arith, ap (count p) z) })
         last (inr b) = rw (List·getD-append (listed p n) (suc n ∷ []) 0 k (omega (arith, listed-length p n))) (wider _ (rest b))
+
+-- the rows of an item and the items of a row
+module _ (F : Family) (j k : ℕ) where
+  pub rowsOf-at : k < length (rowsOf F j) → Member (λ i. F .on i j) (F .rows) k (getD (rowsOf F j) k 0)
+  unfolding rowsOf
+  rowsOf-at h = listed-at (λ i. F .on i j) (F .rows) k (omega (arith, listed-length (λ i. F .on i j) (F .rows)))
+
+  pub itemsOf-at : k < length (itemsOf F j) → Member (F .on j) (F .items) k (getD (itemsOf F j) k 0)
+  unfolding itemsOf
+  itemsOf-at h = listed-at (F .on j) (F .items) k (omega (arith, listed-length (F .on j) (F .items)))
+
+-- each is listed, and once: at the place that counts those before it
+module _ (F : Family) (i j : ℕ) (l : 1 ≤ i) (o : F .on i j ≡ true) where
+  pub rowsOf-rank : i ≤ F .rows → getD (rowsOf F j) (count (λ r. F .on r j) (i - 1)) 0 ≡ i
+  unfolding rowsOf
+  rowsOf-rank u = listed-rank (λ r. F .on r j) (F .rows) i l u o

@@ -1,11 +1,11 @@
 -- 000, the proof of Proposition 2: where each item is on more than d rows and two different ones share at most one, the matrix is d-disjunct.
-use mathlib.Core.Path.{_≡_, refl, sym, ap, subst}
+use mathlib.Core.Path.{_≡_, refl, sym, ap}
 use mathlib.Core.Bool.{Bool, true, false, not, _&&_, true≢false}
 use mathlib.Core.Logic.{_⊎_, inl, inr}
 use Prim.Native.Nat.{ℕ, zero, suc, _+_, _≤_, _<_}
 use native.Mathlib.Omega.{arith}
 use Rattle.incidence.specs.Count.{bit, count}
-use Rattle.incidence.specs.Family.{Family, Separates, Disjunct}
+use Rattle.incidence.specs.Family.{Family, Disjunct}
 use Rattle.incidence.proofs.Booleans.{and-left, and-right, and-both, not-both}
 use Rattle.incidence.proofs.Counting.{Found, last-or, found, count-mono, count-none, count-split}
 

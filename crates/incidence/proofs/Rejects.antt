@@ -1,8 +1,8 @@
 -- What demand 3, as `Detects` states it, rules out by itself, whatever the family and the code: a report that names every item, one that
 -- names none, and one that always says "beyond". And how the statement passes to what is equal to it or asks for more.
-use mathlib.Core.Path.{_≡_, refl, sym, ap, _∙_}
-use mathlib.Core.Bool.{Bool, true, false, not, _&&_}
-use Prim.Native.Nat.{ℕ, _+_, _≤_, _<_}
+use mathlib.Core.Path.{_≡_, refl, ap, _∙_}
+use mathlib.Core.Bool.{Bool, true, false}
+use Prim.Native.Nat.{ℕ, _≤_, _<_}
 use native.Mathlib.Omega.{arith}
 use Rattle.incidence.specs.Count.{count}
 use Rattle.incidence.specs.Report.{number}

@@ -1,4 +1,4 @@
--- A family of rows (000, sections 2.2 and 4.3): the extended test matrix, its disjunctness, the tagged rows, and how the others are made
+-- A family of rows (000, sections 2.1 and 4.3): the extended test matrix, its disjunctness, the tagged rows, and how the others are made
 -- of them. Everything above the planes speaks of these names alone. Assumes nothing.
 use mathlib.Core.Path.{_≡_}
 use mathlib.Core.Bool.{Bool, true, false, xor}
@@ -36,7 +36,7 @@ pub record Separates (F : Family) (set : ℕ → Bool) (j : ℕ) : Type 0 where
   pub holds : F .on row j ≡ true
   pub spares : (k : ℕ) → 1 ≤ k → k ≤ F .items → set k ≡ true → F .on row k ≡ false
 
--- 000, 2.2: d-disjunct. For any d or fewer items and another one, some row holds that one and none of them.
+-- 000, 2.1: d-disjunct. For any d or fewer items and another one, some row holds that one and none of them.
 abbrev pub Disjunct : Family → ℕ → Type 0
 Disjunct F d =
     (set : ℕ → Bool) → count set (F .items) ≤ d → (j : ℕ) → 1 ≤ j → j ≤ F .items → set j ≡ false → Separates F set j

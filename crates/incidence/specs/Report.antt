@@ -1,4 +1,4 @@
--- Document 01, Report, over any family and any test `agrees` of its rows (000, section 2.3: naïve decoding). n is the number of items of
+-- Document 01, Report, over any family and any test `agrees` of its rows (000, section 3.1: naïve decoding). n is the number of items of
 -- the message. Assumes nothing.
 use mathlib.Core.Bool.{Bool, not, _&&_}
 use Prim.Native.Nat.{ℕ}

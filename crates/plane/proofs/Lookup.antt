@@ -1,0 +1,171 @@
+-- The code's tables are the definitions' lists. A table is tested at each of the five places of a column; past the end both are empty.
+use mathlib.Core.Path.{_≡_, refl, sym, ap, _∙_}
+use mathlib.Core.Bool.{Bool, true, false, _&&_}
+use mathlib.Core.List.{List, [], _∷_}
+use Prim.Native.Nat.{ℕ, zero, suc, _+_, _≤_, _<_}
+use native.Mathlib.Omega.{arith}
+use lib.Dec.{eqb, ltb, leb}
+use lib.ListN.{length, getD, take, drop, List·getD-eq-default}
+use lib.Seq.{getD-take, getD-drop}
+use borrow.Author.Tests.{ltb-true, ltb-false, leb-true, eqb-true}
+use Rattle.cipher.specs.Block.{same}
+use Rattle.cipher.proofs.Xor.{same-true}
+use Rattle.incidence.proofs.Booleans.{and-left, and-right}
+use Rattle.incidence.proofs.Counting.{every, every-at}
+use Rattle.plane.proofs.Ranks.{above}
+use Rattle.plane.specs.Table.{itemCounts, itemsOf, tagCounts, tagsOf, limits, limitOf, differenceLists, differences, patternLists, pattern}
+
+-- below five or not
+pub five : {A : Type 0} (s : ℕ) → (s < 5 → A) → (5 ≤ s → A) → A
+five {A} s f g = go (ltb s 5) refl
+  where
+    go : (b : Bool) → ltb s 5 ≡ b → A
+    go true e = f (ltb-true s 5 e)
+    go false e = g (ltb-false s 5 e)
+
+-- a column of five entries is f, where f is 0 past them
+column-is : (l : List ℕ) (f : ℕ → ℕ) → length l ≡ 5 → ((s : ℕ) → 5 ≤ s → f s ≡ 0) → every (λ s. eqb (getD l s 0) (f s)) 5 ≡ true
+    → (s : ℕ) → getD l s 0 ≡ f s
+column-is l f n past test s =
+    five s (λ u. eqb-true (getD l s 0) (f s) (every-at (λ s. eqb (getD l s 0) (f s)) 5 test s u))
+    (λ u. List·getD-eq-default l 0 (omega arith) ∙ sym (past s u))
+
+-- the lists f 0 to f 4 stand in one list of n entries, each from its start on
+module _ (flat start : List ℕ) (n : ℕ) (f : ℕ → List ℕ) where
+  partTest : ℕ → Bool
+  partTest s = same (take (length (f s)) (drop (getD start s 0) flat)) (f s) && leb (getD start s 0 + length (f s)) n
+
+  module _ (past : (s : ℕ) → 5 ≤ s → f s ≡ []) (test : every partTest 5 ≡ true) (s k : ℕ) (h : k < length (f s)) where
+    part-passes : partTest s ≡ true
+    part-passes = five s (every-at partTest 5 test s) (λ u. absurd (let e : length (f s) ≡ 0 = ap length (past s u) in omega arith))
+
+    part-bound : getD start s 0 + k < n
+    unfolding partTest
+    part-bound = omega (arith, leb-true _ n (and-right (same (take (length (f s)) (drop (getD start s 0) flat)) (f s)) _ part-passes))
+
+    part-at : getD flat (getD start s 0 + k) 0 ≡ getD (f s) k 0
+    unfolding partTest
+    part-at =
+        sym (getD-drop (getD start s 0) flat k 0)
+        ∙ sym (getD-take (length (f s)) (drop (getD start s 0) flat) k 0 h)
+        ∙ ap (λ (l : List ℕ). getD l k 0) (same-true _ (f s) (and-left (same (take (length (f s)) (drop (getD start s 0) flat)) (f s)) _ part-passes))
+
+-- ---- the tables
+
+unfoldable pub differenceTable : List ℕ
+differenceTable =
+    1 ∷ 2 ∷ 4 ∷
+    3 ∷ 6 ∷ 7 ∷ 12 ∷ 14 ∷
+    1 ∷ 2 ∷ 4 ∷ 8 ∷ 16 ∷ 32 ∷ 37 ∷ 55 ∷ 64 ∷
+    1 ∷ 2 ∷ 4 ∷ 8 ∷ 16 ∷ 32 ∷ 64 ∷ 91 ∷ 117 ∷ 128 ∷ 137 ∷ 182 ∷ 195 ∷ 205 ∷ 234 ∷ 239 ∷ 256 ∷ []
+
+unfoldable pub patternTable : List ℕ
+patternTable =
+    0x02 ∷ 0x03 ∷ 0x04 ∷
+    0x02 ∷ 0x04 ∷ 0x06 ∷ 0x07 ∷ 0x0a ∷
+    0x02 ∷ 0x06 ∷ 0x09 ∷ 0x0a ∷ 0x0b ∷ 0x0e ∷ 0x0f ∷ 0x10 ∷ 0x13 ∷ 0x14 ∷ 0x17 ∷ 0x18 ∷ 0x19 ∷ 0x1b ∷ 0x1c ∷
+    0x02 ∷ 0x04 ∷ 0x08 ∷ 0x0e ∷ 0x11 ∷ 0x13 ∷ 0x15 ∷ 0x16 ∷ 0x18 ∷ 0x19 ∷ 0x1e ∷ 0x1f ∷ 0x20 ∷ 0x22 ∷ 0x24 ∷ 0x28 ∷ 0x2a ∷ 0x2b ∷ 0x2c ∷ 0x2e ∷ 0x30 ∷ 0x31 ∷ 0x35 ∷ 0x37 ∷ 0x38 ∷ 0x39 ∷ 0x3a ∷
+    0x45 ∷ 0x46 ∷ 0x47 ∷ 0x4d ∷ 0x4e ∷ 0x4f ∷ 0x51 ∷ 0x52 ∷ []
+
+abbrev pub differenceStarts : List ℕ
+differenceStarts = 0 ∷ 0 ∷ 3 ∷ 8 ∷ 17 ∷ []
+
+abbrev pub patternStarts : List ℕ
+patternStarts = 0 ∷ 0 ∷ 3 ∷ 8 ∷ 23 ∷ []
+
+pub no-differences : (s : ℕ) → 5 ≤ s → differences s ≡ []
+unfolding differences differenceLists
+no-differences s h = List·getD-eq-default differenceLists [] h
+
+pub no-pattern : (s : ℕ) → 5 ≤ s → pattern s ≡ []
+unfolding pattern patternLists
+no-pattern s h = List·getD-eq-default patternLists [] h
+
+pub difference-count : (s : ℕ) → getD (0 ∷ 3 ∷ 5 ∷ 9 ∷ 17 ∷ []) s 0 ≡ length (differences s)
+unfolding differences differenceLists
+difference-count = column-is (0 ∷ 3 ∷ 5 ∷ 9 ∷ 17 ∷ []) (λ s. length (differences s)) refl (λ s h. ap length (no-differences s h)) refl
+
+pub pattern-count : (s : ℕ) → getD (0 ∷ 3 ∷ 5 ∷ 15 ∷ 35 ∷ []) s 0 ≡ length (pattern s)
+unfolding pattern patternLists
+pattern-count = column-is (0 ∷ 3 ∷ 5 ∷ 15 ∷ 35 ∷ []) (λ s. length (pattern s)) refl (λ s h. ap length (no-pattern s h)) refl
+
+differences-test : every (partTest differenceTable differenceStarts 34 differences) 5 ≡ true
+unfolding partTest same differences differenceLists differenceTable
+differences-test = refl
+
+patterns-test : every (partTest patternTable patternStarts 58 pattern) 5 ≡ true
+unfolding partTest same pattern patternLists patternTable
+patterns-test = refl
+
+pub difference-bound : (s k : ℕ) → k < length (differences s) → getD differenceStarts s 0 + k < 34
+difference-bound = part-bound differenceTable differenceStarts 34 differences no-differences differences-test
+
+pub difference-at : (s k : ℕ) → k < length (differences s) → getD differenceTable (getD differenceStarts s 0 + k) 0 ≡ getD (differences s) k 0
+difference-at = part-at differenceTable differenceStarts 34 differences no-differences differences-test
+
+pub step-bound : (s k : ℕ) → k < length (pattern s) → getD patternStarts s 0 + k < 58
+step-bound = part-bound patternTable patternStarts 58 pattern no-pattern patterns-test
+
+pub step-at : (s k : ℕ) → k < length (pattern s) → getD patternTable (getD patternStarts s 0 + k) 0 ≡ getD (pattern s) k 0
+step-at = part-at patternTable patternStarts 58 pattern no-pattern patterns-test
+
+-- ---- how large the numbers are
+
+most : ℕ → List ℕ → Bool
+most b [] = true
+most b (x ∷ l) = leb x b && most b l
+
+getD-most : (b : ℕ) (l : List ℕ) → most b l ≡ true → (k : ℕ) → getD l k 0 ≤ b
+unfolding most
+getD-most b [] h k = omega arith
+getD-most b (x ∷ l) h zero = leb-true x b (and-left (leb x b) (most b l) h)
+getD-most b (x ∷ l) h (suc k) = getD-most b l (and-right (leb x b) (most b l) h) k
+
+pub items-most : (s : ℕ) → itemsOf s ≤ 273
+unfolding itemsOf itemCounts most
+items-most = getD-most 273 itemCounts refl
+
+pub tags-most : (s : ℕ) → tagsOf s ≤ 273
+unfolding tagsOf tagCounts most
+tags-most = getD-most 273 tagCounts refl
+
+pub limit-most : (s : ℕ) → limitOf s ≤ 273
+unfolding limitOf limits most
+limit-most = getD-most 273 limits refl
+
+-- past the columns there is nothing
+pub no-items : (s : ℕ) → 5 ≤ s → itemsOf s ≡ 0
+unfolding itemsOf itemCounts
+no-items s h = List·getD-eq-default itemCounts 0 h
+
+pub no-tags : (s : ℕ) → 5 ≤ s → tagsOf s ≡ 0
+unfolding tagsOf tagCounts
+no-tags s h = List·getD-eq-default tagCounts 0 h
+
+pub no-limit : (s : ℕ) → 5 ≤ s → limitOf s ≡ 0
+unfolding limitOf limits
+no-limit s h = List·getD-eq-default limits 0 h
+
+-- there are items only where s is 1 to 4
+pub some-low : (s : ℕ) → 1 ≤ itemsOf s → 1 ≤ s
+unfolding itemsOf itemCounts
+some-low zero h = h
+some-low (suc s) h = omega arith
+
+pub some-high : (s : ℕ) → 1 ≤ itemsOf s → s ≤ 4
+some-high s h = five s (λ u. omega arith) (λ u. absurd (omega (arith, no-items s u)))
+
+-- the lists rise, whatever s
+risesTest : ℕ → Bool
+risesTest s = above 0 (differences s)
+
+rise-test : every risesTest 5 ≡ true
+unfolding risesTest differences differenceLists
+rise-test = refl
+
+pub differences-rise : (s : ℕ) → above 0 (differences s) ≡ true
+unfolding risesTest
+differences-rise s = five s (rises s) (λ u. ap (above 0) (no-differences s u))
+  where
+    rises : (s : ℕ) → s < 5 → risesTest s ≡ true
+    rises = every-at risesTest 5 rise-test

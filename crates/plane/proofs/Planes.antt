@@ -1,0 +1,97 @@
+-- The four planes are lawful families, with document 01's numbers: what the crates above use of them.
+use mathlib.Core.Path.{_≡_, refl, ap, _∙_}
+use mathlib.Core.Bool.{Bool, true, false, _&&_}
+use Prim.Native.Nat.{ℕ, suc, _≤_, _<_}
+use native.Mathlib.Omega.{arith}
+use lib.Dec.{leb}
+use borrow.Author.Tests.{leb-true, leb-false, le-leb}
+use Rattle.cipher.specs.Block.{if_then_else_}
+use Rattle.incidence.specs.Count.{count}
+use Rattle.incidence.specs.Family.{Disjunct, Lawful}
+use Rattle.incidence.proofs.Pigeonhole.{pigeonhole}
+use Rattle.plane.specs.Table.{itemsOf, tagsOf, limitOf, differences, pattern}
+use Rattle.plane.specs.Plane.{plane, tagged, pairs, on}
+use Rattle.plane.proofs.Cyclic.{Rules, once-at, column-weight, row-weight, columns-share, rows-share, pattern-yields, made-earlier}
+use Rattle.plane.proofs.Rules.{rules}
+
+-- ---- the tags of rows
+
+tagged-yes : (t i : ℕ) → i ≤ t → tagged t i ≡ i
+unfolding tagged
+tagged-yes t i u = rw (le-leb i t u)
+
+tagged-most : (t i : ℕ) → tagged t i ≤ t
+unfolding tagged
+tagged-most t i = go (leb i t) refl
+  where
+    go : (b : Bool) → leb i t ≡ b → (if b then i else 0) ≤ t
+    go true e = leb-true i t e
+    go false e = omega arith
+
+tagged-some : (t i : ℕ) → 1 ≤ tagged t i → tagged t i ≡ i
+unfolding tagged
+tagged-some t i = go (leb i t)
+  where
+    go : (b : Bool) → 1 ≤ (if b then i else 0) → (if b then i else 0) ≡ i
+    go true e = refl
+    go false e = absurd (omega arith)
+
+tagged-none : (t i : ℕ) → 1 ≤ i → tagged t i ≡ 0 → t < i
+unfolding tagged
+tagged-none t i l = go (leb i t) refl
+  where
+    go : (b : Bool) → leb i t ≡ b → (if b then i else 0) ≡ 0 → t < i
+    go true e h = absurd (omega arith)
+    go false e h = leb-false i t e
+
+-- ---- the planes, s from 1 to 4
+
+module _ (s : ℕ) (low : 1 ≤ s) (high : s ≤ 4) where
+  R : Rules (itemsOf s) (tagsOf s) (limitOf s) (differences s) (pattern s)
+  R = rules s low high
+
+  -- "Every nonzero remainder modulo m is a difference of two members of D once"
+  pub difference-once : (δ : ℕ) → 1 ≤ δ → δ < itemsOf s → pairs (itemsOf s) (differences s) δ ≡ 1
+  difference-once = once-at (itemsOf s) (tagsOf s) (limitOf s) (differences s) (pattern s) R
+
+  -- "so a card is on d+1 rows"; a row holds d + 1 places too
+  pub rows-of-item : (j : ℕ) → 1 ≤ j → j ≤ itemsOf s → count (λ i. plane s .on i j) (itemsOf s) ≡ suc (limitOf s)
+  unfolding plane
+  rows-of-item = column-weight (itemsOf s) (tagsOf s) (limitOf s) (differences s) (pattern s) R
+
+  pub items-of-row : (i : ℕ) → 1 ≤ i → i ≤ itemsOf s → count (λ j. plane s .on i j) (itemsOf s) ≡ suc (limitOf s)
+  unfolding plane
+  items-of-row = row-weight (itemsOf s) (tagsOf s) (limitOf s) (differences s) (pattern s) R
+
+  -- "and two cards share at most one row": exactly one; and two rows one card
+  pub share-one-row : (j k : ℕ) → 1 ≤ j → j ≤ itemsOf s → 1 ≤ k → k ≤ itemsOf s → (k ≡ j → ⊥)
+      → count (λ i. plane s .on i j && plane s .on i k) (itemsOf s) ≡ 1
+  unfolding plane
+  share-one-row = columns-share (itemsOf s) (tagsOf s) (limitOf s) (differences s) (pattern s) R
+
+  pub share-one-item : (i k : ℕ) → 1 ≤ i → i ≤ itemsOf s → 1 ≤ k → k ≤ itemsOf s → (k ≡ i → ⊥)
+      → count (λ j. plane s .on i j && plane s .on k j) (itemsOf s) ≡ 1
+  unfolding plane
+  share-one-item = rows-share (itemsOf s) (tagsOf s) (limitOf s) (differences s) (pattern s) R
+
+  -- "Hence d-disjunct"
+  pub disjunct : Disjunct (plane s) (limitOf s)
+  unfolding plane
+  disjunct =
+      pigeonhole (plane s) (limitOf s) (λ j l u. omega (arith, rows-of-item j l u))
+      (λ j k lj uj lk uk ne. omega (arith, share-one-row j k lj uj lk uk ne))
+
+  pub lawful : Lawful (plane s)
+  unfolding plane
+  lawful = record {
+    disjunct = disjunct;
+    row-low = λ k l u. rw (tagged-yes (tagsOf s) k u) l;
+    row-high = λ k l u. omega (arith, tagged-yes (tagsOf s) k u, R .fits);
+    tag-back = λ k l u. ap (tagged (tagsOf s)) (tagged-yes (tagsOf s) k u) ∙ tagged-yes (tagsOf s) k u;
+    tag-high = λ i l u. tagged-most (tagsOf s) i;
+    row-back = λ i l u h. ap (tagged (tagsOf s)) (tagged-some (tagsOf s) i h) ∙ tagged-some (tagsOf s) i h;
+    earlier = λ i l u h.
+        made-earlier (itemsOf s) (tagsOf s) (limitOf s) (differences s) (pattern s) R i (tagged-none (tagsOf s) i l h) u;
+    adds-up = λ i j l u h lj uj.
+        pattern-yields (itemsOf s) (tagsOf s) (limitOf s) (differences s) (pattern s) R i j (tagged-none (tagsOf s) i l h) u lj uj;
+  }

@@ -1,0 +1,432 @@
+-- Where the rows of an item and the items of a row stand, in rising order, by ranks in the difference list.
+use mathlib.Core.Path.{_≡_, refl, sym, ap, _∙_, subst}
+use mathlib.Core.Bool.{Bool, true, false, _&&_}
+use mathlib.Core.List.{List, [], map}
+use Prim.Native.Nat.{ℕ, zero, suc, _+_, _-_, _≤_, _<_, _%_}
+use native.Mathlib.Nat.{add-mod-right, mod-eq-of-lt}
+use native.Mathlib.Omega.{arith}
+use lib.Dec.{eqb, ltb, leb}
+use lib.ListN.{length, getD, length-map}
+use borrow.Author.Tests.{ltb-true, ltb-false, leb-true, leb-false, lt-ltb, le-ltb, le-leb, lt-leb, eqb-true, eqb-false}
+use Rattle.cipher.specs.Block.{if_then_else_}
+use Rattle.cipher.proofs.Loop.{map-at}
+use Rattle.incidence.specs.Count.{bit, count, listed, inside}
+use Rattle.incidence.specs.Family.{rowsOf, itemsOf}
+use Rattle.incidence.proofs.Booleans.{not-both}
+use Rattle.incidence.proofs.Counting.{inside-low, inside-high, count-ext, count-none}
+use Rattle.incidence.proofs.Listing.{listed-length, listed-rank}
+use Rattle.plane.specs.Table.{itemsOf as sizeOf, tagsOf, limitOf, differences, pattern}
+use Rattle.plane.specs.Plane.{member, on, made, tagged, plane}
+use Rattle.plane.proofs.Ranks.{above, rank, above-at, under-at, member-at, not-member, count-rank, rank-at, rank-before, rank-mono, rank-most, rank-least, rank-length, count-add, count-down}
+use Rattle.plane.proofs.Lookup.{differences-rise, items-most, some-low, some-high}
+use Rattle.plane.proofs.Rules.{rules}
+use Rattle.plane.proofs.Cyclic.{Rules, within-at, on-inside, hit, count-hits, count-turn, column-weight, row-weight}
+
+-- ---- membership by rank
+
+rank-step : (D : List ℕ) → above 0 D ≡ true → (n : ℕ) → rank D (suc n) ≡ rank D n + bit (member (suc n) D)
+rank-step D h n = sym (count-rank D h (suc n)) ∙ ap (λ (x : ℕ). x + bit (member (suc n) D)) (count-rank D h n)
+
+bit-zero : (b : Bool) → bit b ≡ 0 → b ≡ false
+bit-zero true h = absurd (omega arith)
+bit-zero false h = refl
+
+pub no-member : (D : List ℕ) → above 0 D ≡ true → (x : ℕ) → rank D x ≡ 0 → member x D ≡ false
+no-member D h zero e = not-member 0 D h 0 (omega arith)
+no-member D h (suc n) e = bit-zero _ (omega (arith, rank-step D h n))
+
+-- the largest difference that is at most x
+pub last-member : (D : List ℕ) → above 0 D ≡ true → (x : ℕ) → 0 < rank D x → eqb (getD D (rank D x - 1) 0) x ≡ member x D
+last-member D h x pos = go (eqb e x) refl
+  where
+    e : ℕ
+    e = getD D (rank D x - 1) 0
+
+    low : rank D x - 1 < length D
+    low = omega (arith, rank-length D x)
+
+    upto : e ≤ x
+    upto = rank-most 0 D h x (rank D x - 1) low (omega arith)
+
+    absent : (y : ℕ) → y ≡ x → e < y → member x D ≡ false
+    absent zero q l = absurd (omega arith)
+    absent (suc n) q l =
+        subst (λ (z : ℕ). member z D ≡ false) q
+        (bit-zero (member (suc n) D) (omega (arith, rank-step D h n, ap (rank D) q, rank-mono D e n (omega arith), rank-at 0 D h (rank D x - 1) low)))
+
+    go : (b : Bool) → eqb e x ≡ b → eqb e x ≡ member x D
+    go true t = t ∙ sym (subst (λ (y : ℕ). member y D ≡ true) (eqb-true e x t) (member-at D (rank D x - 1) low))
+    go false t =
+        let ne : e ≡ x → ⊥ = eqb-false e x t in
+        t ∙ sym (absent x refl (omega (arith, upto)))
+
+-- ---- rows of an item, items of a row
+
+module _ (m t d : ℕ) (D P : List ℕ) (R : Rules m t d D P) where
+  H : ℕ → Bool
+  H = hit m t d D P R
+
+  -- the rows before row i that hold item j
+  before-row : (i j : ℕ) → 1 ≤ i → i ≤ m → 1 ≤ j → j ≤ m
+      → count (λ r. on m D r j) (i - 1) + count H (j + m - i) ≡ suc d + rank D (j - 1)
+  unfolding H
+  before-row i j li ui lj uj =
+      let e : j + m ≡ j + m - i + suc (i - 1) = omega arith in
+      let f : j + m - i + (i - 1) ≡ m + (j - 1) = omega arith in
+      let g : count (λ r. on m D r j) (i - 1) ≡ count (λ k. H (j + m - i + k)) (i - 1) =
+      count-ext (λ r. on m D r j) (λ r. H (j + m - i + suc (i - 1) - r)) (i - 1)
+      (λ r a b. on-inside m D r j a (omega arith) lj uj ∙ ap (λ (x : ℕ). H (x - r)) e)
+      ∙ count-down H (j + m - i) (i - 1) in
+      omega (arith, g, count-add H (j + m - i) (i - 1), ap (count H) f, count-turn m t d D P R (j - 1), count-hits m t d D P R (j - 1) (omega arith))
+
+  -- the items before item j that row i holds
+  before-item : (i j : ℕ) → 1 ≤ i → i ≤ m → 1 ≤ j → j ≤ m
+      → count (λ r. on m D i r) (j - 1) + rank D (m - i) ≡ count H (m - i + (j - 1))
+  unfolding H
+  before-item i j li ui lj uj =
+      let g : count (λ r. on m D i r) (j - 1) ≡ count (λ k. H (m - i + k)) (j - 1) =
+      count-ext (λ r. on m D i r) (λ k. H (m - i + k)) (j - 1)
+      (λ r a b. on-inside m D i r li ui a (omega arith) ∙ ap H (let e : r + m - i ≡ m - i + r = omega arith in e)) in
+      omega (arith, g, count-add H (m - i) (j - 1), count-hits m t d D P R (m - i) (omega arith))
+
+  -- row i holds item j where j − i leads to a difference
+  on-difference : (i j k : ℕ) → 1 ≤ i → i ≤ m → 1 ≤ j → j ≤ m → k < length D
+      → (j + m - i) % m ≡ getD D k 0 → on m D i j ≡ true
+  on-difference i j k li ui lj uj l e = on-inside m D i j li ui lj uj ∙ ap (λ (x : ℕ). member x D) e ∙ member-at D k l
+
+  small : (k : ℕ) → k < length D → getD D k 0 % m ≡ getD D k 0
+  small k l = mod-eq-of-lt (under-at m D (R .below) k l)
+
+  module _ (j : ℕ) (lj : 1 ≤ j) (uj : j ≤ m) where
+    pub rows-length : length (listed (λ i. on m D i j) m) ≡ length D
+    rows-length = listed-length (λ i. on m D i j) m ∙ column-weight m t d D P R j lj uj ∙ sym (R .size)
+
+    row-place : (i k : ℕ) → 1 ≤ i → i ≤ m → on m D i j ≡ true → count (λ r. on m D r j) (i - 1) ≡ k
+        → getD (listed (λ r. on m D r j) m) k 0 ≡ i
+    row-place i k l u o e =
+        subst (λ (x : ℕ). getD (listed (λ r. on m D r j) m) x 0 ≡ i) e (listed-rank (λ r. on m D r j) m i l u o)
+
+    -- a difference e below j leads to row j − e
+    row-by-below : (k n e : ℕ) → n < length D → e ≡ getD D n 0 → e ≤ j - 1 → suc (n + k) ≡ rank D (j - 1)
+        → getD (listed (λ i. on m D i j) m) k 0 ≡ j - e
+    unfolding H
+    row-by-below k n e l q u r =
+        let lo : 0 < getD D n 0 = above-at 0 D (R .rises) n l in
+        let f : j + m - (j - e) ≡ m + e = omega arith in
+        let g : m + e ≡ e + m = omega arith in
+        row-place (j - e) k (omega arith) (omega arith)
+        (on-difference (j - e) j n (omega arith) (omega arith) lj uj l (ap (λ (x : ℕ). x % m) (f ∙ g) ∙ add-mod-right e m ∙ ap (λ (x : ℕ). x % m) q ∙ small n l))
+        (omega (
+          arith,
+          before-row (j - e) j (omega arith) (omega arith) lj uj,
+          ap (count H) f,
+          count-turn m t d D P R e,
+          count-hits m t d D P R e (omega arith),
+          ap (rank D) q,
+          rank-at 0 D (R .rises) n l,
+        ))
+
+    -- another leads to row j + m − e
+    row-by-behind : (k n e : ℕ) → n < length D → e ≡ getD D n 0 → j ≤ e → n + suc k ≡ d + suc (rank D (j - 1))
+        → getD (listed (λ i. on m D i j) m) k 0 ≡ j + m - e
+    unfolding H
+    row-by-behind k n e l q u r =
+        let hi : getD D n 0 < m = under-at m D (R .below) n l in
+        let f : j + m - (j + m - e) ≡ e = omega arith in
+        row-place (j + m - e) k (omega arith) (omega arith)
+        (on-difference (j + m - e) j n (omega arith) (omega arith) lj uj l (ap (λ (x : ℕ). x % m) (f ∙ q) ∙ small n l))
+        (omega (
+          arith,
+          before-row (j + m - e) j (omega arith) (omega arith) lj uj,
+          ap (count H) f,
+          count-hits m t d D P R e (omega arith),
+          ap (rank D) q,
+          rank-at 0 D (R .rises) n l,
+        ))
+
+  module _ (i : ℕ) (li : 1 ≤ i) (ui : i ≤ m) where
+    pub items-length : length (listed (on m D i) m) ≡ length D
+    items-length = listed-length (on m D i) m ∙ row-weight m t d D P R i li ui ∙ sym (R .size)
+
+    item-place : (j k : ℕ) → 1 ≤ j → j ≤ m → on m D i j ≡ true → count (on m D i) (j - 1) ≡ k → getD (listed (on m D i) m) k 0 ≡ j
+    item-place j k l u o e = subst (λ (x : ℕ). getD (listed (on m D i) m) x 0 ≡ j) e (listed-rank (on m D i) m j l u o)
+
+    -- a difference e above m − i goes round to item i + e − m
+    item-by-round : (k n e : ℕ) → n < length D → e ≡ getD D n 0 → m - i < e → n ≡ rank D (m - i) + k
+        → getD (listed (on m D i) m) k 0 ≡ i + e - m
+    unfolding H
+    item-by-round k n e l q u r =
+        let hi : getD D n 0 < m = under-at m D (R .below) n l in
+        let f : i + e - m + m - i ≡ e = omega arith in
+        let g : m - i + (i + e - m - 1) ≡ e - 1 = omega arith in
+        item-place (i + e - m) k (omega arith) (omega arith)
+        (on-difference i (i + e - m) n li ui (omega arith) (omega arith) l (ap (λ (x : ℕ). x % m) (f ∙ q) ∙ small n l))
+        (omega (
+          arith,
+          before-item i (i + e - m) li ui (omega arith) (omega arith),
+          ap (count H) g,
+          count-hits m t d D P R (e - 1) (omega arith),
+          ap (λ (x : ℕ). rank D (x - 1)) q,
+          rank-before 0 D (R .rises) n l,
+        ))
+
+    -- another leads to item i + e
+    item-by-ahead : (k n e : ℕ) → n < length D → e ≡ getD D n 0 → e ≤ m - i → n + suc d ≡ k + rank D (m - i)
+        → getD (listed (on m D i) m) k 0 ≡ i + e
+    unfolding H
+    item-by-ahead k n e l q u r =
+        let lo : 0 < getD D n 0 = above-at 0 D (R .rises) n l in
+        let hi : getD D n 0 < m = under-at m D (R .below) n l in
+        let f : i + e + m - i ≡ e + m = omega arith in
+        let g : m - i + (i + e - 1) ≡ m + (e - 1) = omega arith in
+        item-place (i + e) k (omega arith) (omega arith)
+        (on-difference i (i + e) n li ui (omega arith) (omega arith) l (ap (λ (x : ℕ). x % m) f ∙ add-mod-right e m ∙ ap (λ (x : ℕ). x % m) q ∙ small n l))
+        (omega (
+          arith,
+          before-item i (i + e) li ui (omega arith) (omega arith),
+          ap (count H) g,
+          count-turn m t d D P R (e - 1),
+          count-hits m t d D P R (e - 1) (omega arith),
+          ap (λ (x : ℕ). rank D (x - 1)) q,
+          rank-before 0 D (R .rises) n l,
+        ))
+
+-- ---- out of range
+
+on-no-row : (m : ℕ) (D : List ℕ) (i j : ℕ) → inside m i ≡ false → on m D i j ≡ false
+unfolding on
+on-no-row m D i j e = rw e
+
+on-no-item : (m : ℕ) (D : List ℕ) (i j : ℕ) → inside m j ≡ false → on m D i j ≡ false
+unfolding on
+on-no-item m D i j e = rw e (go (inside m i))
+  where
+    go : (b : Bool) → (b && false) && member ((j + m - i) % m) D ≡ false
+    go true = refl
+    go false = refl
+
+listed-none : (p : ℕ → Bool) (n : ℕ) → ((i : ℕ) → p i ≡ false) → length (listed p n) ≡ 0
+listed-none p n h = listed-length p n ∙ count-none p n (λ i l u t. not-both (p i) t (h i))
+
+-- ---- by s, as the code goes
+
+module _ (s i j : ℕ) where
+  pub plane-no-row : inside (sizeOf s) i ≡ false → plane s .on i j ≡ false
+  unfolding plane
+  plane-no-row e = on-no-row (sizeOf s) (differences s) i j e
+
+  pub plane-no-item : inside (sizeOf s) j ≡ false → plane s .on i j ≡ false
+  unfolding plane
+  plane-no-item e = on-no-item (sizeOf s) (differences s) i j e
+
+  pub plane-on : inside (sizeOf s) i ≡ true → inside (sizeOf s) j ≡ true → plane s .on i j ≡ member ((j + sizeOf s - i) % sizeOf s) (differences s)
+  unfolding plane
+  plane-on p q =
+      on-inside (sizeOf s) (differences s) i j (inside-low (sizeOf s) i p) (inside-high (sizeOf s) i p) (inside-low (sizeOf s) j q) (inside-high (sizeOf s) j q)
+
+-- a number inside a plane's range has that plane's rules
+inside-rules : (s j : ℕ) → inside (sizeOf s) j ≡ true → Rules (sizeOf s) (tagsOf s) (limitOf s) (differences s) (pattern s)
+inside-rules s j e =
+    let l : 1 ≤ j = inside-low (sizeOf s) j e in
+    let u : j ≤ sizeOf s = inside-high (sizeOf s) j e in
+    rules s (some-low s (omega arith)) (some-high s (omega arith))
+
+module _ (s j : ℕ) where
+  pub rows-in : inside (sizeOf s) j ≡ true → length (rowsOf (plane s) j) ≡ length (differences s)
+  unfolding plane rowsOf
+  rows-in e =
+      rows-length (sizeOf s) (tagsOf s) (limitOf s) (differences s) (pattern s) (inside-rules s j e) j (inside-low (sizeOf s) j e) (inside-high (sizeOf s) j e)
+
+  pub rows-out : inside (sizeOf s) j ≡ false → length (rowsOf (plane s) j) ≡ 0
+  unfolding plane rowsOf
+  rows-out e = listed-none _ (sizeOf s) (λ i. on-no-item (sizeOf s) (differences s) i j e)
+
+  pub items-in : inside (sizeOf s) j ≡ true → length (itemsOf (plane s) j) ≡ length (differences s)
+  unfolding plane itemsOf
+  items-in e =
+      items-length (sizeOf s) (tagsOf s) (limitOf s) (differences s) (pattern s) (inside-rules s j e) j (inside-low (sizeOf s) j e) (inside-high (sizeOf s) j e)
+
+  pub items-out : inside (sizeOf s) j ≡ false → length (itemsOf (plane s) j) ≡ 0
+  unfolding plane itemsOf
+  items-out e = listed-none _ (sizeOf s) (λ i. on-no-row (sizeOf s) (differences s) j i e)
+
+-- what is listed is inside
+if-listed : (s j n : ℕ) → (inside (sizeOf s) j ≡ false → n ≡ 0) → (k : ℕ) → k < n → inside (sizeOf s) j ≡ true
+if-listed s j n out k h = go (inside (sizeOf s) j) refl
+  where
+    go : (b : Bool) → inside (sizeOf s) j ≡ b → inside (sizeOf s) j ≡ true
+    go true e = e
+    go false e = absurd (omega (arith, out e))
+
+-- the row at place k of item j; p is the rank of j − 1
+module _ (s j k : ℕ) (h : k < length (rowsOf (plane s) j)) where
+  row-inside : inside (sizeOf s) j ≡ true
+  row-inside = if-listed s j (length (rowsOf (plane s) j)) (rows-out s j) k h
+
+  pub row-item-low : 1 ≤ j
+  row-item-low = inside-low (sizeOf s) j row-inside
+
+  pub row-item-high : j ≤ sizeOf s
+  row-item-high = inside-high (sizeOf s) j row-inside
+
+  row-rules : Rules (sizeOf s) (tagsOf s) (limitOf s) (differences s) (pattern s)
+  row-rules = inside-rules s j row-inside
+
+  module _ (p : ℕ) (q : p ≡ rank (differences s) (j - 1)) where
+    pub below-place : k < p → p - 1 - k < length (differences s)
+    below-place l = omega (arith, rank-length (differences s) (j - 1))
+
+    pub below-most : (l : k < p) (e : ℕ) → e ≡ getD (differences s) (p - 1 - k) 0 → e ≤ j - 1
+    below-most l e r =
+        omega (arith, rank-most 0 (differences s) (differences-rise s) (j - 1) (p - 1 - k) (below-place l) (omega arith))
+
+    pub below-row : (l : k < p) (e : ℕ) → e ≡ getD (differences s) (p - 1 - k) 0 → getD (rowsOf (plane s) j) k 0 ≡ j - e
+    unfolding plane rowsOf
+    below-row l e r =
+        row-by-below (sizeOf s) (tagsOf s) (limitOf s) (differences s) (pattern s) row-rules j row-item-low row-item-high
+        k (p - 1 - k) e (below-place l) r (below-most l e r) (omega arith)
+
+    module _ (n : ℕ) (c : n ≡ length (rowsOf (plane s) j)) where
+      pub behind-place : n - 1 - (k - p) < length (differences s)
+      behind-place = omega (arith, rows-in s j row-inside)
+
+      pub behind-least : p ≤ k → (e : ℕ) → e ≡ getD (differences s) (n - 1 - (k - p)) 0 → j - 1 < e
+      behind-least l e r =
+          omega (arith, rank-least 0 (differences s) (differences-rise s) (j - 1) (n - 1 - (k - p)) behind-place (omega arith))
+
+      pub behind-most : (e : ℕ) → e ≡ getD (differences s) (n - 1 - (k - p)) 0 → e < sizeOf s
+      behind-most e r = omega (arith, under-at (sizeOf s) (differences s) (row-rules .below) (n - 1 - (k - p)) behind-place)
+
+      pub behind-row : p ≤ k → (e : ℕ) → e ≡ getD (differences s) (n - 1 - (k - p)) 0 → getD (rowsOf (plane s) j) k 0 ≡ j + sizeOf s - e
+      unfolding plane rowsOf
+      behind-row l e r =
+          row-by-behind (sizeOf s) (tagsOf s) (limitOf s) (differences s) (pattern s) row-rules j row-item-low row-item-high
+          k (n - 1 - (k - p)) e behind-place r (omega (arith, behind-least l e r))
+          (omega (arith, rows-in s j row-inside, row-rules .size))
+
+-- the item at place k of row i; p is the rank of m − i
+module _ (s i k : ℕ) (h : k < length (itemsOf (plane s) i)) where
+  item-inside : inside (sizeOf s) i ≡ true
+  item-inside = if-listed s i (length (itemsOf (plane s) i)) (items-out s i) k h
+
+  pub item-row-low : 1 ≤ i
+  item-row-low = inside-low (sizeOf s) i item-inside
+
+  pub item-row-high : i ≤ sizeOf s
+  item-row-high = inside-high (sizeOf s) i item-inside
+
+  item-rules : Rules (sizeOf s) (tagsOf s) (limitOf s) (differences s) (pattern s)
+  item-rules = inside-rules s i item-inside
+
+  module _ (p n : ℕ) (q : p ≡ rank (differences s) (sizeOf s - i)) (c : n ≡ length (itemsOf (plane s) i)) where
+    pub round-place : k < n - p → p + k < length (differences s)
+    round-place l = omega (arith, items-in s i item-inside)
+
+    pub round-least : (l : k < n - p) (e : ℕ) → e ≡ getD (differences s) (p + k) 0 → sizeOf s - i < e
+    round-least l e r =
+        omega (arith, rank-least 0 (differences s) (differences-rise s) (sizeOf s - i) (p + k) (round-place l) (omega arith))
+
+    pub round-most : (l : k < n - p) (e : ℕ) → e ≡ getD (differences s) (p + k) 0 → e < sizeOf s
+    round-most l e r = omega (arith, under-at (sizeOf s) (differences s) (item-rules .below) (p + k) (round-place l))
+
+    pub round-item : (l : k < n - p) (e : ℕ) → e ≡ getD (differences s) (p + k) 0 → getD (itemsOf (plane s) i) k 0 ≡ i + e - sizeOf s
+    unfolding plane itemsOf
+    round-item l e r =
+        item-by-round (sizeOf s) (tagsOf s) (limitOf s) (differences s) (pattern s) item-rules i item-row-low item-row-high
+        k (p + k) e (round-place l) r (round-least l e r) (omega arith)
+
+    pub rank-within : p ≤ n
+    rank-within = omega (arith, items-in s i item-inside, rank-length (differences s) (sizeOf s - i))
+
+    pub ahead-place : n - p ≤ k → k - (n - p) < length (differences s)
+    ahead-place l = omega (arith, items-in s i item-inside, rank-within)
+
+    pub ahead-most : (l : n - p ≤ k) (e : ℕ) → e ≡ getD (differences s) (k - (n - p)) 0 → e ≤ sizeOf s - i
+    ahead-most l e r =
+        omega (arith, rank-most 0 (differences s) (differences-rise s) (sizeOf s - i) (k - (n - p)) (ahead-place l) (omega (arith, rank-within)))
+
+    pub ahead-item : (l : n - p ≤ k) (e : ℕ) → e ≡ getD (differences s) (k - (n - p)) 0 → getD (itemsOf (plane s) i) k 0 ≡ i + e
+    unfolding plane itemsOf
+    ahead-item l e r =
+        item-by-ahead (sizeOf s) (tagsOf s) (limitOf s) (differences s) (pattern s) item-rules i item-row-low item-row-high
+        k (k - (n - p)) e (ahead-place l) r (ahead-most l e r) (omega (arith, rank-within, items-in s i item-inside, item-rules .size))
+
+-- ---- made rows
+
+module _ (s i : ℕ) where
+  pub made-none-low : i ≤ tagsOf s → length (plane s .made i) ≡ 0
+  unfolding plane made
+  made-none-low u = rw (le-ltb (tagsOf s) i u)
+
+  pub made-none-high : sizeOf s < i → length (plane s .made i) ≡ 0
+  unfolding plane made
+  made-none-high u = rw (lt-leb i (sizeOf s) u) (go (ltb (tagsOf s) i))
+    where
+      go : (b : Bool) → length (if b && false then map (λ k. i - k) (pattern s) else []) ≡ 0
+      go true = refl
+      go false = refl
+
+  made-is : tagsOf s < i → i ≤ sizeOf s → plane s .made i ≡ map (λ k. i - k) (pattern s)
+  unfolding plane made
+  made-is l u = rw (lt-ltb (tagsOf s) i l, le-leb i (sizeOf s) u)
+
+  pub made-length : tagsOf s < i → i ≤ sizeOf s → length (plane s .made i) ≡ length (pattern s)
+  made-length l u = ap length (made-is l u) ∙ length-map (pattern s) (λ k. i - k)
+
+  -- where a row is made of others
+  module _ (k : ℕ) (h : k < length (plane s .made i)) where
+    past : tagsOf s < i
+    past = go (ltb (tagsOf s) i) refl
+      where
+        go : (b : Bool) → ltb (tagsOf s) i ≡ b → tagsOf s < i
+        go true e = ltb-true (tagsOf s) i e
+        go false e = absurd (omega (arith, made-none-low (ltb-false (tagsOf s) i e)))
+
+    upto : i ≤ sizeOf s
+    upto = go (leb i (sizeOf s)) refl
+      where
+        go : (b : Bool) → leb i (sizeOf s) ≡ b → i ≤ sizeOf s
+        go true e = leb-true i (sizeOf s) e
+        go false e = absurd (omega (arith, made-none-high (leb-false i (sizeOf s) e)))
+
+    pub made-place : k < length (pattern s)
+    made-place = omega (arith, made-length past upto)
+
+    pub made-row : (e : ℕ) → e ≡ getD (pattern s) k 0 → getD (plane s .made i) k 0 ≡ i - e
+    made-row e r = ap (λ (l : List ℕ). getD l k 0) (made-is past upto) ∙ map-at (λ k. i - k) (pattern s) k made-place ∙ ap (λ (x : ℕ). i - x) (sym r)
+
+    pub made-most : (e : ℕ) → e ≡ getD (pattern s) k 0 → e ≤ i
+    made-most e r =
+        let R : Rules (sizeOf s) (tagsOf s) (limitOf s) (differences s) (pattern s) =
+        rules s (some-low s (omega (arith, past, upto))) (some-high s (omega (arith, past, upto))) in
+        omega (arith, past, within-at (tagsOf s) (pattern s) (R .near) k made-place)
+
+-- ---- answers of the code's tests
+
+pub inside-of : (m n i : ℕ) (r b : Bool) → m ≡ n → r ≡ inside m i → r ≡ b → inside n i ≡ b
+inside-of m n i r b e f g = ap (λ (x : ℕ). inside x i) (sym e) ∙ sym f ∙ g
+
+pub tag-yes : (t u i : ℕ) → u ≡ t → i ≤ u → i ≡ tagged t i
+unfolding tagged
+tag-yes t u i e h = rw (le-leb i t (omega arith))
+
+pub tag-no : (t u i : ℕ) → u ≡ t → u < i → 0 ≡ tagged t i
+unfolding tagged
+tag-no t u i e h = rw (lt-leb i t (omega arith))
+
+-- a row and an item that passed the tests of the code
+pub record Reached (m i j : ℕ) : Type 0 where
+  pub size : m ≤ 273
+  pub row-low : 1 ≤ i
+  pub row-high : i ≤ m
+  pub item-low : 1 ≤ j
+  pub item-high : j ≤ m
+
+pub reached : (s m i j : ℕ) (a b : Bool) → m ≡ sizeOf s → a ≡ inside m i → a ≡ true → b ≡ inside m j → b ≡ true → Reached m i j
+reached s m i j a b e f g h k = record {
+  size = omega (arith, items-most s);
+  row-low = inside-low m i (sym f ∙ g);
+  row-high = inside-high m i (sym f ∙ g);
+  item-low = inside-low m j (sym h ∙ k);
+  item-high = inside-high m j (sym h ∙ k);
+}

@@ -1,0 +1,3 @@
+-- What the contracts about planes say. Definitions only: the laws about them are in proofs/.
+pub mod Table
+pub mod Plane

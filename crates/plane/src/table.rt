@@ -1,0 +1,168 @@
+// Document 01, Planes: the constants of the four planes by s, 1 to 4. The tables are the lists of specs/Table.antt, whose rules are
+// proved by computation (proofs/Rules.antt).
+ghost use mathlib.Core.Path.{_≡_};
+ghost use Prim.Native.Nat.{_<_};
+ghost use lib.ListN.{length, getD};
+ghost use Rattle.plane.specs.Table.{itemsOf, tagsOf, limitOf, differences, pattern};
+ghost use Rattle.plane.specs.Plane.{many};
+ghost use lib.Dec.{leb};
+
+// A column of document 01's table each, from s = 0 on.
+const ITEMS: [usize; 5] = [0, 7, 21, 73, 273];
+
+const TAGS: [usize; 5] = [0, 4, 10, 28, 82];
+
+const LIMITS: [usize; 5] = [0, 2, 4, 8, 16];
+
+// The four difference lists, one after the other, where each starts and how many entries it has.
+const DIFFERENCES: [u16; 34] = [
+    1,
+    2,
+    4,
+    3,
+    6,
+    7,
+    12,
+    14,
+    1,
+    2,
+    4,
+    8,
+    16,
+    32,
+    37,
+    55,
+    64,
+    1,
+    2,
+    4,
+    8,
+    16,
+    32,
+    64,
+    91,
+    117,
+    128,
+    137,
+    182,
+    195,
+    205,
+    234,
+    239,
+    256,
+];
+
+const DIFFERENCES_AT: [usize; 5] = [0, 0, 3, 8, 17];
+
+const DIFFERENCE_COUNTS: [usize; 5] = [0, 3, 5, 9, 17];
+
+// The four row patterns, one after the other, where each starts and how many entries it has.
+const PATTERNS: [u8; 58] = *b"\
+    \x02\x03\x04\
+    \x02\x04\x06\x07\x0a\
+    \x02\x06\x09\x0a\x0b\x0e\x0f\x10\x13\x14\x17\x18\x19\x1b\x1c\
+    \x02\x04\x08\x0e\x11\x13\x15\x16\x18\x19\x1e\x1f\x20\x22\x24\x28\x2a\x2b\x2c\x2e\x30\x31\x35\x37\x38\x39\x3a\
+    \x45\x46\x47\x4d\x4e\x4f\x51\x52";
+
+const PATTERNS_AT: [usize; 5] = [0, 0, 3, 8, 23];
+
+const PATTERN_COUNTS: [usize; 5] = [0, 3, 5, 15, 35];
+
+// The entry of a column at s; beyond its end, 0.
+fn column(t: [usize; 5], s: usize) -> usize
+    ensures { λ r. ⌜ r ≡ getD t s 0 ⌝ }
+{
+    if s < 5 { t[s] } else { 0 }
+}
+
+// How many items there are (document 01: cards m), and as many rows.
+pub fn items(s: usize) -> usize
+    ensures { λ r. ⌜ r ≡ itemsOf s ⌝ }
+{
+    column(ITEMS, s)
+}
+
+// How many rows carry tags.
+pub fn tags(s: usize) -> usize
+    ensures { λ r. ⌜ r ≡ tagsOf s ⌝ }
+{
+    column(TAGS, s)
+}
+
+// The disjunctness (document 01: limit d).
+pub fn limit(s: usize) -> usize
+    ensures { λ r. ⌜ r ≡ limitOf s ⌝ }
+{
+    column(LIMITS, s)
+}
+
+// How many differences there are.
+pub fn difference_count(s: usize) -> usize
+    ensures { λ r. ⌜ r ≡ length (differences s) ⌝ }
+{
+    column(DIFFERENCE_COUNTS, s)
+}
+
+// A number from a table, wider.
+fn from_u8(x: u8) -> usize
+    ensures { λ r. ⌜ r ≡ x ⌝ }
+{
+    x as usize
+}
+
+// Likewise.
+fn from_u16(x: u16) -> usize
+    ensures { λ r. ⌜ r ≡ x ⌝ }
+{
+    x as usize
+}
+
+// An entry of the table of differences.
+fn entry(t: &[u16; 34], k: usize) -> usize
+    requires { ⌜ (k < 34) × (length (now t) ≡ 34) ⌝ }
+    ensures { λ r. ⌜ r ≡ getD (now (t .entry)) k 0 ⌝ }
+{
+    from_u16(t[k])
+}
+
+// The difference at place k, from 0.
+pub fn difference(s: usize, k: usize) -> usize
+    requires { ⌜ k < length (differences s) ⌝ }
+    ensures { λ r. ⌜ r ≡ getD (differences s) k 0 ⌝ }
+{
+    let t = DIFFERENCES;
+    entry(&t, column(DIFFERENCES_AT, s) + k)
+}
+
+// How many differences are at most x.
+pub fn rank(s: usize, x: usize) -> usize
+    ensures { λ r. ⌜ r ≡ many (λ e. leb e x) (differences s) ⌝ }
+{
+    let t = DIFFERENCES;
+    let at = column(DIFFERENCES_AT, s);
+    let n = column(DIFFERENCE_COUNTS, s);
+    let mut r = 0;
+    let mut k = 0;
+    while k < n {
+        if entry(&t, at + k) <= x {
+            r += 1;
+        }
+        k += 1;
+    }
+    r
+}
+
+// How many entries the row pattern has.
+pub fn step_count(s: usize) -> usize
+    ensures { λ r. ⌜ r ≡ length (pattern s) ⌝ }
+{
+    column(PATTERN_COUNTS, s)
+}
+
+// The pattern's entry at place k, from 0: how many rows back.
+pub fn step(s: usize, k: usize) -> usize
+    requires { ⌜ k < length (pattern s) ⌝ }
+    ensures { λ r. ⌜ r ≡ getD (pattern s) k 0 ⌝ }
+{
+    from_u8(PATTERNS[column(PATTERNS_AT, s) + k])
+}

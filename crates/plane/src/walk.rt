@@ -1,0 +1,131 @@
+// The rows of an item and the items of a row, in rising order. Row i holds item j when (j − i) modulo m is a difference, so both lists
+// follow the difference list, which is walked once; no pair of row and item is tested. A number out of range gets 0 or false.
+use crate::table;
+ghost use mathlib.Core.Path.{_≡_};
+ghost use lib.ListN.{length, getD};
+ghost use Rattle.incidence.specs.Count.{inside};
+ghost use Rattle.incidence.specs.Family.{rowsOf, itemsOf};
+ghost use Rattle.plane.specs.Plane.{plane, member};
+ghost use Rattle.plane.specs.Table.{differences};
+
+// Whether x is a difference: the largest one that is at most x is x.
+fn contains(s: usize, x: usize) -> bool
+    ensures { λ r. ⌜ r ≡ member x (differences s) ⌝ }
+{
+    let p = table::rank(s, x);
+    if p == 0 {
+        return false;
+    }
+    table::difference(s, p - 1) == x
+}
+
+// Whether i is one of the numbers 1 to n.
+fn inside(n: usize, i: usize) -> bool
+    ensures { λ r. ⌜ r ≡ inside n i ⌝ }
+{
+    1 <= i && i <= n
+}
+
+// Whether row i holds item j.
+pub fn on(s: usize, i: usize, j: usize) -> bool
+    ensures { λ r. ⌜ r ≡ plane s .on i j ⌝ }
+{
+    let m = table::items(s);
+    if !inside(m, i) {
+        return false;
+    }
+    if !inside(m, j) {
+        return false;
+    }
+    contains(s, (j + m - i) % m)
+}
+
+// How many rows hold item j.
+pub fn row_count(s: usize, j: usize) -> usize
+    ensures { λ r. ⌜ r ≡ length (rowsOf (plane s) j) ⌝ }
+{
+    if inside(table::items(s), j) {
+        table::difference_count(s)
+    } else {
+        0
+    }
+}
+
+// The row at place k, from 0, among those that hold item j. The differences below j lead to the rows below j, the others to those behind.
+pub fn row_at(s: usize, j: usize, k: usize) -> usize
+    ensures { λ r. ⌜ r ≡ getD (rowsOf (plane s) j) k 0 ⌝ }
+{
+    let n = row_count(s, j);
+    if n <= k {
+        return 0;
+    }
+    let p = table::rank(s, j - 1);
+    if k < p {
+        return j - table::difference(s, p - 1 - k);
+    }
+    j + table::items(s) - table::difference(s, n - 1 - (k - p))
+}
+
+// How many items row i holds.
+pub fn item_count(s: usize, i: usize) -> usize
+    ensures { λ r. ⌜ r ≡ length (itemsOf (plane s) i) ⌝ }
+{
+    if inside(table::items(s), i) {
+        table::difference_count(s)
+    } else {
+        0
+    }
+}
+
+// The item at place k, from 0, among those that row i holds. The differences above m − i go round to the first items.
+pub fn item_at(s: usize, i: usize, k: usize) -> usize
+    ensures { λ r. ⌜ r ≡ getD (itemsOf (plane s) i) k 0 ⌝ }
+{
+    let n = item_count(s, i);
+    if n <= k {
+        return 0;
+    }
+    let m = table::items(s);
+    let p = table::rank(s, m - i);
+    if k < n - p {
+        return i + table::difference(s, p + k) - m;
+    }
+    i + table::difference(s, k - (n - p))
+}
+
+// The tag of row i, 0 where it has none.
+pub fn tag_of_row(s: usize, i: usize) -> usize
+    ensures { λ r. ⌜ r ≡ plane s .tagOfRow i ⌝ }
+{
+    if i <= table::tags(s) { i } else { 0 }
+}
+
+// The row of tag k.
+pub fn row_of_tag(s: usize, k: usize) -> usize
+    ensures { λ r. ⌜ r ≡ plane s .rowOfTag k ⌝ }
+{
+    if k <= table::tags(s) { k } else { 0 }
+}
+
+// How many earlier rows row i is made of, 0 where it has a tag.
+pub fn made_count(s: usize, i: usize) -> usize
+    ensures { λ r. ⌜ r ≡ length (plane s .made i) ⌝ }
+{
+    if i <= table::tags(s) {
+        return 0;
+    }
+    if table::items(s) < i {
+        return 0;
+    }
+    table::step_count(s)
+}
+
+// The row at place k, from 0, among those that row i is made of.
+pub fn made_at(s: usize, i: usize, k: usize) -> usize
+    ensures { λ r. ⌜ r ≡ getD (plane s .made i) k 0 ⌝ }
+{
+    if made_count(s, i) <= k {
+        return 0;
+    }
+    i - table::step(s, k)
+}

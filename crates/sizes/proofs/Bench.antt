@@ -1,0 +1,29 @@
+-- The starred cases about planes, by computation.
+use mathlib.Core.Path.{refl}
+use mathlib.Core.Bool.{xor}
+use Rattle.incidence.specs.Family.{rowsOf, itemsOf, parity}
+use Rattle.incidence.specs.Report.{cleared, named, numberNamed, disagreeing, holdsNamed, unexplained, answerBy, answer}
+use Rattle.plane.specs.Table.{itemCounts, itemsOf as sizeOf, tagCounts, tagsOf, limits, limitOf, differenceLists, differences, patternLists, pattern}
+use Rattle.plane.specs.Plane.{on, made, plane}
+use Rattle.sizes.specs.Sizes.{familyOf}
+use Rattle.sizes.specs.Cases.{PlaneCases, agreesWith, disagree, suspects}
+
+pub planes : PlaneCases
+unfolding familyOf plane on made itemsOf rowsOf parity xor sizeOf itemCounts tagsOf tagCounts limitOf limits differences differenceLists pattern patternLists agreesWith disagree suspects cleared named numberNamed disagreeing holdsNamed unexplained answerBy answer
+planes = record {
+  row-1 = refl;
+  row-4 = refl;
+  card-1 = refl;
+  size-2-row-1 = refl;
+  row-5-made = refl;
+  row-5 = refl;
+  changed-2-rows = refl;
+  changed-2-named = refl;
+  changed-2-says = refl;
+  changed-1-2-rows = refl;
+  changed-1-2-named = refl;
+  changed-1-2-says = refl;
+  changed-1-2-3-rows = refl;
+  changed-1-2-3-named = refl;
+  changed-1-2-3-says = refl;
+}

@@ -1,0 +1,21 @@
+-- Arrays of sums (000, section 4.3: S[1] .. S[v]): sum i, counted from 1, is block i − 1 of the array. Assumes nothing.
+use mathlib.Core.Path.{_≡_}
+use mathlib.Core.Bool.{Bool}
+use mathlib.Core.List.{List, _++_}
+use Prim.Native.Nat.{ℕ, zero, suc, _+_, _-_, _*_, _≤_}
+use lib.ListN.{length, take, drop}
+use Rattle.cipher.specs.Block.{if_then_else_, _⊕_, slot}
+
+-- sum i of an array
+unfoldable pub sumIn : List ℕ → ℕ → List ℕ
+sumIn s i = slot s (i - 1)
+
+-- `after` is `before` with a value added to those of its first n sums that p picks
+pub record Added (p : ℕ → Bool) (n : ℕ) (value before after : List ℕ) : Type 0 where
+  pub size : length after ≡ length before
+  pub sums : (i : ℕ) → 1 ≤ i → i ≤ n → sumIn after i ≡ (if p i then sumIn before i ⊕ value else sumIn before i)
+
+-- an array with a value added to sum t; as it was where t is 0
+unfoldable pub addedAt : List ℕ → ℕ → List ℕ → List ℕ
+addedAt s zero value = s
+addedAt s (suc t) value = take (16 * t) s ++ ((slot s t ⊕ value) ++ drop (16 * t + 16) s)

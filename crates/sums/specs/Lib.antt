@@ -1,0 +1,2 @@
+-- What the contracts about arrays of sums say. Definitions only: the laws about them are in proofs/.
+pub mod Adding
