@@ -6,12 +6,13 @@ use cipher::cmac;
 use cipher::cmac::MacKey;
 ghost use mathlib.Core.Path.{_≡_};
 ghost use mathlib.Core.List.{List, _++_};
-ghost use Prim.Native.Nat.{ℕ};
+ghost use Prim.Native.Nat.{ℕ, _*_, _≤_};
+ghost use lib.ListN.{length, drop};
 ghost use Rattle.cipher.specs.Block.{_⊕_};
 ghost use Rattle.cipher.specs.Number.{bigEndian};
 ghost use Rattle.cipher.specs.Aes.{keyExpansion, cipher, invCipher, encipher};
 ghost use Rattle.cipher.specs.Cmac.{subkey1, subkey2};
-ghost use Rattle.keyed.specs.Keyed.{itemHash, mask, tagOf, sumOfTag};
+ghost use Rattle.keyed.specs.Keyed.{itemHash, mask, tagOf, sumOfTag, tagsOf, sumsOf};
 
 // The hash of item j under a key made ready (document 01: code of card j).
 pub fn item_hash(k: MacKey, j: u64, item: &[u8]) -> [u8; 16]
@@ -39,4 +40,38 @@ pub fn sum_of_tag(w: [u8; 176], m: [u8; 16], tag: [u8; 16]) -> [u8; 16]
     ensures { λ r. ⌜ ((key : List ℕ) (i : ℕ) → w ≡ keyExpansion key → m ≡ mask key i → r ≡ sumOfTag key i tag) ⌝ }
 {
     block::xor(m, aes::decipher_with(w, block::xor(m, tag)))
+}
+
+// Writes the tags of n sums, which stand one after another in sums, to the front of out; what is behind them stays.
+pub fn write_tags(w: [u8; 176], sums: &[u8], n: usize, out: &mut [u8])
+    requires { ⌜ (16 * n ≤ length (now sums)) × (16 * n ≤ length (now out)) ⌝ }
+    ensures { λ _. ⌜ ((key : List ℕ) → w ≡ keyExpansion key → now (out .exit) ≡ tagsOf key (now (sums .entry)) n ++ drop (16 * n) (now (out .entry))) ⌝ }
+{
+    let mut m = mask_zero(w);
+    let mut k = 0;
+    while k < n {
+        let next = block::double(m);
+        block::put_at(out, 16 * k, tag_of(w, next, block::block_at(sums, 16 * k)));
+        m = next;
+        k += 1;
+    }
+}
+
+// Writes the sums that n tags, which stand one after another in tags, were made of to the front of out; what is behind them stays.
+pub fn write_sums(w: [u8; 176], tags: &[u8], n: usize, out: &mut [u8])
+    requires { ⌜ (16 * n ≤ length (now tags)) × (16 * n ≤ length (now out)) ⌝ }
+    ensures { λ _. ⌜ ((key : List ℕ) → w ≡ keyExpansion key → now (out .exit) ≡ sumsOf key (now (tags .entry)) n ++ drop (16 * n) (now (out .entry))) ⌝ }
+{
+    let mut m = mask_zero(w);
+    let mut k = 0;
+    while k < n {
+        let next = block::double(m);
+        block::put_at(
+            out,
+            16 * k,
+            sum_of_tag(w, next, block::block_at(tags, 16 * k)),
+        );
+        m = next;
+        k += 1;
+    }
 }
