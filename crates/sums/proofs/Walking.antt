@@ -7,15 +7,18 @@ use Prim.Native.Nat.{ℕ, zero, suc, _+_, _-_, _*_, _≤_, _<_}
 use native.Mathlib.Omega.{arith}
 use lib.Dec.{ltb, eqb}
 use lib.ListN.{length, getD, take, drop}
-use borrow.Author.Tests.{lt-ltb, le-ltb, ltb-true, ltb-false, eqb-true, eqb-false}
-use Rattle.cipher.specs.Block.{if_then_else_, _⊕_, slot}
+use lib.Seq.{drop-length, drop-cons}
+use borrow.Author.Tests.{lt-ltb, le-ltb, ltb-true, ltb-false, eqb-true, eqb-false, eq-eqb, ne-eqb}
+use Rattle.cipher.specs.Block.{if_then_else_, _⊕_, slot, zeros}
 use Rattle.cipher.proofs.Xor.{⊕-length}
 use Rattle.cipher.proofs.Slots.{written, written-length, slot-here, slot-before, slot-after, slot-length}
 use Rattle.incidence.specs.Count.{count, listed}
+use Rattle.incidence.specs.Sum.{sumOf, had}
 use Rattle.incidence.specs.Family.{Family, Lawful, rowsOf}
 use Rattle.incidence.proofs.Listing.{Member, listed-rank, listed-length}
 use Rattle.incidence.proofs.Counting.{count-before}
-use Rattle.sums.specs.Adding.{sumIn, Added, addedAt}
+use Rattle.incidence.proofs.Sums.{sumOf-ext, had-all}
+use Rattle.sums.specs.Adding.{sumIn, Added, addedAt, rowFrom}
 
 -- picked among the first k that pass
 abbrev pub passed : (ℕ → Bool) → ℕ → ℕ → Bool
@@ -52,12 +55,7 @@ module _ (s : List ℕ) (i : ℕ) (value : List ℕ) (low : 1 ≤ i) (fits : 16 
           let b : i - 1 ≤ j - 1 = ltb-false _ _ e in
           slot-after s (i - 1) (slot s (i - 1) ⊕ value) room new-long (j - 1) (omega (arith, ne))
 
--- ---- the walk
-
--- the value is added to the sums of the first k that pass
-pub record Walked (p : ℕ → Bool) (n : ℕ) (value before after : List ℕ) (k : ℕ) : Type 0 where
-  pub size : length after ≡ length before
-  pub sums : (i : ℕ) → 1 ≤ i → i ≤ n → sumIn after i ≡ (if passed p k i then sumIn before i ⊕ value else sumIn before i)
+-- ---- which rows are passed
 
 not-passed : (p : ℕ → Bool) (k i : ℕ) → k ≤ count p (i - 1) → passed p k i ≡ false
 not-passed p k i h = go (p i)
@@ -84,63 +82,41 @@ as-before p k j ne = go (p j) refl
     go true e = tests (count p (j - 1)) (ne e)
     go false e = refl
 
-pub walked-first : (p : ℕ → Bool) (n : ℕ) (value s : List ℕ) → Walked p n value s s 0
-walked-first p n value s = record {
-  size = refl;
-  sums = λ i l u. ap (λ (t : Bool). if t then sumIn s i ⊕ value else sumIn s i) (sym (not-passed p 0 i (omega arith)));
-}
-
-module _ (p : ℕ → Bool) (n : ℕ) (value before s : List ℕ) (k i : ℕ) (W : Walked p n value before s k) (M : Member p n k i) (fits : 16 * n ≤ length before)
-    (long : length value ≡ 16) where
-  wide : 16 * i ≤ length s
-  wide = omega (arith, M .high, W .size)
-
-  pub walked-next : (s′ : List ℕ) → s′ ≡ written s (i - 1) (slot s (i - 1) ⊕ value) → Walked p n value before s′ (k + 1)
-  walked-next s′ e = record {
-    size = ap length e ∙ put-size s i value (M .low) wide long ∙ W .size;
-    sums = λ j l u. ap (λ (t : List ℕ). sumIn t j) e ∙ go j l u (eqb j i) refl;
-  }
-    where
-      here : sumIn (written s (i - 1) (slot s (i - 1) ⊕ value)) i ≡ (if passed p (k + 1) i then sumIn before i ⊕ value else sumIn before i)
-      here =
-          let r = M .rank in
-          put-here s i value (M .low) wide long
-          ∙ ap (λ (t : List ℕ). t ⊕ value)
-          (W .sums i (M .low) (M .high) ∙ ap (λ (t : Bool). if t then sumIn before i ⊕ value else sumIn before i) (not-passed p k i (omega arith)))
-          ∙ ap (λ (t : Bool). if t then sumIn before i ⊕ value else sumIn before i) (sym (is-passed p (k + 1) i (M .passes) (omega arith)))
-
-      only : (j : ℕ) → 1 ≤ j → j ≤ n → (j ≡ i → ⊥) → p j ≡ true → count p (j - 1) ≡ k → ⊥
-      only j l u ne t c =
-          ne (sym (listed-rank p n j l u t) ∙ ap (λ (m : ℕ). getD (listed p n) m 0) (c ∙ sym (M .rank)) ∙ listed-rank p n i (M .low) (M .high) (M .passes))
-
-      go : (j : ℕ) → 1 ≤ j → j ≤ n → (t : Bool) → eqb j i ≡ t
-          → sumIn (written s (i - 1) (slot s (i - 1) ⊕ value)) j ≡ (if passed p (k + 1) j then sumIn before j ⊕ value else sumIn before j)
-      go j l u true q =
-          subst (λ (m : ℕ). sumIn (written s (i - 1) (slot s (i - 1) ⊕ value)) m ≡ (if passed p (k + 1) m then sumIn before m ⊕ value else sumIn before m)) (sym (eqb-true j i q)) here
-      go j l u false q =
-          let ne = eqb-false j i q in
-          put-other s i value (M .low) wide long j l ne
-          ∙ W .sums j l u
-          ∙ ap (λ (t : Bool). if t then sumIn before j ⊕ value else sumIn before j) (sym (as-before p k j (only j l u ne)))
-
-pub walked-done : (p : ℕ → Bool) (n : ℕ) (value before s : List ℕ) (k : ℕ) → Walked p n value before s k → count p n ≤ k → Added p n value before s
-walked-done p n value before s k W h = record {
-  size = W .size;
-  sums = λ i l u. W .sums i l u ∙ ap (λ (t : Bool). if t then sumIn before i ⊕ value else sumIn before i) (all i l u (p i) refl);
-}
-  where
-    all : (i : ℕ) → 1 ≤ i → i ≤ n → (b : Bool) → p i ≡ b → passed p k i ≡ p i
-    all i l u true e = is-passed p k i e (omega (arith, count-before p n i l u e)) ∙ sym e
-    all i l u false e = ap (λ (b : Bool). b && ltb (count p (i - 1)) k) e ∙ sym e
-
 -- as many rows are listed as pass
 pub rows-counted : (F : Family) (j : ℕ) → length (rowsOf F j) ≡ count (λ i. F .on i j) (F .rows)
 unfolding rowsOf
 rows-counted F j = listed-length (λ i. F .on i j) (F .rows)
 
--- ---- the walk over tagged rows
+-- ---- the walk
 
--- what the code writes for a tag
+-- the sums stand for rows: `rowOf` is the row of a sum, and `sumOfRow` the sum of a row, 0 where it has none
+pub record Placed (rows n : ℕ) (rowOf sumOfRow : ℕ → ℕ) : Type 0 where
+  pub low : (t : ℕ) → 1 ≤ t → t ≤ n → 1 ≤ rowOf t
+  pub high : (t : ℕ) → 1 ≤ t → t ≤ n → rowOf t ≤ rows
+  pub back : (t : ℕ) → 1 ≤ t → t ≤ n → sumOfRow (rowOf t) ≡ t
+  pub within : (i : ℕ) → 1 ≤ i → i ≤ rows → sumOfRow i ≤ n
+  pub forth : (i : ℕ) → 1 ≤ i → i ≤ rows → 1 ≤ sumOfRow i → rowOf (sumOfRow i) ≡ i
+
+-- a sum for each row
+pub each-row : (n : ℕ) → Placed n n (λ i. i) (λ i. i)
+each-row n = record { low = λ t l u. l; high = λ t l u. u; back = λ t l u. refl; within = λ i l u. u; forth = λ i l u h. refl }
+
+-- a sum for each tag
+pub each-tag : (F : Family) → Lawful F → Placed (F .rows) (F .tags) (F .rowOfTag) (F .tagOfRow)
+each-tag F L = record { low = L .row-low; high = L .row-high; back = L .tag-back; within = L .tag-high; forth = L .row-back }
+
+-- the value is added to the sums whose rows are among the first k that pass
+pub record Walked (p : ℕ → Bool) (rowOf : ℕ → ℕ) (n : ℕ) (value before after : List ℕ) (k : ℕ) : Type 0 where
+  pub size : length after ≡ length before
+  pub sums : (t : ℕ) → 1 ≤ t → t ≤ n → sumIn after t ≡ (if passed p k (rowOf t) then sumIn before t ⊕ value else sumIn before t)
+
+pub walked-first : (p : ℕ → Bool) (rowOf : ℕ → ℕ) (n : ℕ) (value s : List ℕ) → Walked p rowOf n value s s 0
+walked-first p rowOf n value s = record {
+  size = refl;
+  sums = λ t l u. ap (λ (b : Bool). if b then sumIn s t ⊕ value else sumIn s t) (sym (not-passed p 0 (rowOf t) (omega arith)));
+}
+
+-- what the code writes for a sum
 pub added-none : (s value : List ℕ) (t : ℕ) → t ≡ 0 → s ≡ addedAt s t value
 unfolding addedAt
 added-none s value t e = ap (λ (k : ℕ). addedAt s k value) (sym e)
@@ -150,95 +126,171 @@ unfolding addedAt
 added-some s value zero l = absurd (omega arith)
 added-some s value (suc t) l = let e : suc t - 1 ≡ t = omega arith in ap (λ (k : ℕ). written s k (slot s k ⊕ value)) e
 
--- the value is added to the sums of the tags whose rows are among the first k that pass
-pub record TagsWalked (F : Family) (j : ℕ) (value before after : List ℕ) (k : ℕ) : Type 0 where
-  pub size : length after ≡ length before
-  pub sums : (t : ℕ) → 1 ≤ t → t ≤ F .tags
-      → sumIn after t ≡ (if passed (λ i. F .on i j) k (F .rowOfTag t) then sumIn before t ⊕ value else sumIn before t)
-
-pub tags-first : (F : Family) (j : ℕ) (value s : List ℕ) → TagsWalked F j value s s 0
-tags-first F j value s = record {
-  size = refl;
-  sums = λ t l u. ap (λ (b : Bool). if b then sumIn s t ⊕ value else sumIn s t) (sym (not-passed (λ i. F .on i j) 0 (F .rowOfTag t) (omega arith)));
-}
-
-module _ (F : Family) (L : Lawful F) (j : ℕ) (value before s : List ℕ) (k i : ℕ) (W : TagsWalked F j value before s k)
-    (M : Member (λ i. F .on i j) (F .rows) k i) (fits : 16 * F .tags ≤ length before) (long : length value ≡ 16) where
-  p : ℕ → Bool
-  p i = F .on i j
-
-  -- a tag of another row is as before
-  elsewhere : (t : ℕ) → 1 ≤ t → t ≤ F .tags → (F .rowOfTag t ≡ i → ⊥)
-      → (if passed (λ i. F .on i j) k (F .rowOfTag t) then sumIn before t ⊕ value else sumIn before t)
-      ≡ (if passed (λ i. F .on i j) (k + 1) (F .rowOfTag t) then sumIn before t ⊕ value else sumIn before t)
+module _ (p : ℕ → Bool) (rows n : ℕ) (rowOf sumOfRow : ℕ → ℕ) (P : Placed rows n rowOf sumOfRow) (value before s : List ℕ) (k i : ℕ)
+    (W : Walked p rowOf n value before s k) (M : Member p rows k i) (fits : 16 * n ≤ length before) (long : length value ≡ 16) where
+  -- a sum of another row is as before
+  elsewhere : (t : ℕ) → 1 ≤ t → t ≤ n → (rowOf t ≡ i → ⊥)
+      → (if passed p k (rowOf t) then sumIn before t ⊕ value else sumIn before t)
+      ≡ (if passed p (k + 1) (rowOf t) then sumIn before t ⊕ value else sumIn before t)
   elsewhere t l u ne =
-      let r = F .rowOfTag t in
+      let r = rowOf t in
       ap (λ (b : Bool). if b then sumIn before t ⊕ value else sumIn before t)
-      (sym (as-before (λ i. F .on i j) k r
-      (λ o c. ne (sym (listed-rank (λ i. F .on i j) (F .rows) r (L .row-low t l u) (L .row-high t l u) o)
-      ∙ ap (λ (m : ℕ). getD (listed (λ i. F .on i j) (F .rows)) m 0) (c ∙ sym (M .rank))
-      ∙ listed-rank (λ i. F .on i j) (F .rows) i (M .low) (M .high) (M .passes)))))
+      (sym (as-before p k r
+      (λ o c. ne (sym (listed-rank p rows r (P .low t l u) (P .high t l u) o)
+      ∙ ap (λ (m : ℕ). getD (listed p rows) m 0) (c ∙ sym (M .rank))
+      ∙ listed-rank p rows i (M .low) (M .high) (M .passes)))))
 
-  untagged : F .tagOfRow i ≡ 0 → TagsWalked F j value before s (k + 1)
-  untagged z = record {
+  without : sumOfRow i ≡ 0 → Walked p rowOf n value before s (k + 1)
+  without z = record {
     size = W .size;
-    sums = λ t l u. W .sums t l u ∙ elsewhere t l u (λ e. no t l (sym (L .tag-back t l u) ∙ ap (F .tagOfRow) e ∙ z));
+    sums = λ t l u. W .sums t l u ∙ elsewhere t l u (λ e. no t l (sym (P .back t l u) ∙ ap sumOfRow e ∙ z));
   }
     where
       no : (t : ℕ) → 1 ≤ t → t ≡ 0 → ⊥
       no t l e = omega arith
 
-  module _ (n : ℕ) (en : F .tagOfRow i ≡ n) (some : 1 ≤ n) where
-    high : n ≤ F .tags
-    high = omega (arith, L .tag-high i (M .low) (M .high))
+  module _ (m : ℕ) (em : sumOfRow i ≡ m) (some : 1 ≤ m) where
+    last : m ≤ n
+    last = omega (arith, P .within i (M .low) (M .high))
 
-    back : F .rowOfTag n ≡ i
-    back = ap (F .rowOfTag) (sym en) ∙ L .row-back i (M .low) (M .high) (omega arith)
+    row : rowOf m ≡ i
+    row = ap rowOf (sym em) ∙ P .forth i (M .low) (M .high) (omega arith)
 
-    wide-tag : 16 * n ≤ length s
-    wide-tag = omega (arith, high, W .size)
+    wide : 16 * m ≤ length s
+    wide = omega (arith, last, W .size)
 
-    tagged : (s′ : List ℕ) → s′ ≡ written s (n - 1) (slot s (n - 1) ⊕ value) → TagsWalked F j value before s′ (k + 1)
-    tagged s′ e = record {
-      size = ap length e ∙ put-size s n value some wide-tag long ∙ W .size;
-      sums = λ t l u. ap (λ (x : List ℕ). sumIn x t) e ∙ go t l u (eqb t n) refl;
+    with-sum : (s′ : List ℕ) → s′ ≡ written s (m - 1) (slot s (m - 1) ⊕ value) → Walked p rowOf n value before s′ (k + 1)
+    with-sum s′ e = record {
+      size = ap length e ∙ put-size s m value some wide long ∙ W .size;
+      sums = λ t l u. ap (λ (x : List ℕ). sumIn x t) e ∙ go t l u (eqb t m) refl;
     }
       where
-        here : sumIn (written s (n - 1) (slot s (n - 1) ⊕ value)) n ≡ (if passed (λ i. F .on i j) (k + 1) (F .rowOfTag n) then sumIn before n ⊕ value else sumIn before n)
+        here : sumIn (written s (m - 1) (slot s (m - 1) ⊕ value)) m ≡ (if passed p (k + 1) (rowOf m) then sumIn before m ⊕ value else sumIn before m)
         here =
             let r = M .rank in
-            put-here s n value some wide-tag long
+            put-here s m value some wide long
             ∙ ap (λ (x : List ℕ). x ⊕ value)
-            (W .sums n some high
-            ∙ ap (λ (b : Bool). if b then sumIn before n ⊕ value else sumIn before n)
-            (ap (passed (λ i. F .on i j) k) back ∙ not-passed (λ i. F .on i j) k i (omega arith)))
-            ∙ ap (λ (b : Bool). if b then sumIn before n ⊕ value else sumIn before n)
-            (sym (ap (passed (λ i. F .on i j) (k + 1)) back ∙ is-passed (λ i. F .on i j) (k + 1) i (M .passes) (omega arith)))
+            (W .sums m some last
+            ∙ ap (λ (b : Bool). if b then sumIn before m ⊕ value else sumIn before m) (ap (passed p k) row ∙ not-passed p k i (omega arith)))
+            ∙ ap (λ (b : Bool). if b then sumIn before m ⊕ value else sumIn before m)
+            (sym (ap (passed p (k + 1)) row ∙ is-passed p (k + 1) i (M .passes) (omega arith)))
 
-        go : (t : ℕ) → 1 ≤ t → t ≤ F .tags → (b : Bool) → eqb t n ≡ b
-            → sumIn (written s (n - 1) (slot s (n - 1) ⊕ value)) t ≡ (if passed (λ i. F .on i j) (k + 1) (F .rowOfTag t) then sumIn before t ⊕ value else sumIn before t)
+        go : (t : ℕ) → 1 ≤ t → t ≤ n → (b : Bool) → eqb t m ≡ b
+            → sumIn (written s (m - 1) (slot s (m - 1) ⊕ value)) t ≡ (if passed p (k + 1) (rowOf t) then sumIn before t ⊕ value else sumIn before t)
         go t l u true q =
-            subst (λ (m : ℕ). sumIn (written s (n - 1) (slot s (n - 1) ⊕ value)) m
-            ≡ (if passed (λ i. F .on i j) (k + 1) (F .rowOfTag m) then sumIn before m ⊕ value else sumIn before m)) (sym (eqb-true t n q)) here
+            subst (λ (x : ℕ). sumIn (written s (m - 1) (slot s (m - 1) ⊕ value)) x
+            ≡ (if passed p (k + 1) (rowOf x) then sumIn before x ⊕ value else sumIn before x)) (sym (eqb-true t m q)) here
         go t l u false q =
-            put-other s n value some wide-tag long t l (eqb-false t n q)
+            put-other s m value some wide long t l (eqb-false t m q)
             ∙ W .sums t l u
-            ∙ elsewhere t l u (λ (e : F .rowOfTag t ≡ i). eqb-false t n q (sym (L .tag-back t l u) ∙ ap (F .tagOfRow) e ∙ en))
+            ∙ elsewhere t l u (λ (e : rowOf t ≡ i). eqb-false t m q (sym (P .back t l u) ∙ ap sumOfRow e ∙ em))
 
-  pub tags-next : (s′ : List ℕ) (n : ℕ) → n ≡ F .tagOfRow i → s′ ≡ addedAt s n value → TagsWalked F j value before s′ (k + 1)
-  tags-next s′ n en e = go n en e
+  pub walked-next : (s′ : List ℕ) (m : ℕ) → m ≡ sumOfRow i → s′ ≡ addedAt s m value → Walked p rowOf n value before s′ (k + 1)
+  walked-next s′ m em e = go m em e
     where
-      go : (n : ℕ) → n ≡ F .tagOfRow i → s′ ≡ addedAt s n value → TagsWalked F j value before s′ (k + 1)
-      go zero z q = subst (λ (x : List ℕ). TagsWalked F j value before x (k + 1)) (added-none s value 0 refl ∙ sym q) (untagged (sym z))
-      go (suc m) z q = tagged (suc m) (sym z) (omega arith) s′ (q ∙ sym (added-some s value (suc m) (omega arith)))
+      go : (m : ℕ) → m ≡ sumOfRow i → s′ ≡ addedAt s m value → Walked p rowOf n value before s′ (k + 1)
+      go zero z q = subst (λ (x : List ℕ). Walked p rowOf n value before x (k + 1)) (added-none s value 0 refl ∙ sym q) (without (sym z))
+      go (suc m) z q = with-sum (suc m) (sym z) (omega arith) s′ (q ∙ sym (added-some s value (suc m) (omega arith)))
 
-pub tags-done : (F : Family) → Lawful F → (j : ℕ) (value before s : List ℕ) (k : ℕ) → TagsWalked F j value before s k → count (λ i. F .on i j) (F .rows) ≤ k
-    → Added (λ t. F .on (F .rowOfTag t) j) (F .tags) value before s
-tags-done F L j value before s k W h = record {
+pub walked-done : (p : ℕ → Bool) (rows n : ℕ) (rowOf sumOfRow : ℕ → ℕ) → Placed rows n rowOf sumOfRow → (value before s : List ℕ) (k : ℕ)
+    → Walked p rowOf n value before s k → count p rows ≤ k → Added (λ t. p (rowOf t)) n value before s
+walked-done p rows n rowOf sumOfRow P value before s k W h = record {
   size = W .size;
-  sums = λ t l u. W .sums t l u ∙ ap (λ (b : Bool). if b then sumIn before t ⊕ value else sumIn before t) (all (F .rowOfTag t) (L .row-low t l u) (L .row-high t l u) (F .on (F .rowOfTag t) j) refl);
+  sums = λ t l u. W .sums t l u ∙ ap (λ (b : Bool). if b then sumIn before t ⊕ value else sumIn before t) (all (rowOf t) (P .low t l u) (P .high t l u) (p (rowOf t)) refl);
 }
   where
-    all : (i : ℕ) → 1 ≤ i → i ≤ F .rows → (b : Bool) → F .on i j ≡ b → passed (λ i. F .on i j) k i ≡ F .on i j
-    all i l u true e = is-passed (λ i. F .on i j) k i e (omega (arith, count-before (λ i. F .on i j) (F .rows) i l u e)) ∙ sym e
-    all i l u false e = ap (λ (b : Bool). b && ltb (count (λ i. F .on i j) (i - 1)) k) e ∙ sym e
+    all : (i : ℕ) → 1 ≤ i → i ≤ rows → (b : Bool) → p i ≡ b → passed p k i ≡ p i
+    all i l u true e = is-passed p k i e (omega (arith, count-before p rows i l u e)) ∙ sym e
+    all i l u false e = ap (λ (b : Bool). b && ltb (count p (i - 1)) k) e ∙ sym e
+
+-- ---- the rows that a row is made of, from the last
+
+pub sum-none : (sum : ℕ → List ℕ) (rows : List ℕ) (k : ℕ) → k ≡ length rows → zeros 16 ≡ sumOf sum (drop k rows)
+unfolding sumOf
+sum-none sum rows k e = ap (sumOf sum) (sym (ap (λ (m : ℕ). drop m rows) e ∙ drop-length rows))
+
+pub sum-more : (sum : ℕ → List ℕ) (rows r : List ℕ) (k a : ℕ) → 0 < k → k ≤ length rows → a ≡ getD rows (k - 1) 0 → r ≡ sumOf sum (drop k rows)
+    → sum a ⊕ r ≡ sumOf sum (drop (k - 1) rows)
+unfolding sumOf
+sum-more sum rows r k a l h ea er =
+    let e : k ≡ suc (k - 1) = omega arith in
+    ap₂ (λ (x : ℕ) (y : List ℕ). sum x ⊕ y) ea (er ∙ ap (λ (m : ℕ). sumOf sum (drop m rows)) e)
+    ∙ ap (sumOf sum) (sym (drop-cons rows (k - 1) 0 (omega arith)))
+
+-- ---- all rows from the tags
+
+pub from-made : (F : Family) (tags s r : List ℕ) (i t : ℕ) → t ≡ F .tagOfRow i → t ≡ 0 → r ≡ sumOf (sumIn s) (F .made i) → r ≡ rowFrom F tags s i
+unfolding rowFrom
+from-made F tags s r i t e z q =
+    q ∙ ap (λ (b : Bool). if b then sumOf (sumIn s) (F .made i) else sumIn tags (F .tagOfRow i)) (sym (eq-eqb (F .tagOfRow i) 0 (sym e ∙ z)))
+
+pub from-tag : (F : Family) (tags s r : List ℕ) (i t : ℕ) → t ≡ F .tagOfRow i → (t ≡ 0 → ⊥) → r ≡ sumIn tags t → r ≡ rowFrom F tags s i
+unfolding rowFrom
+from-tag F tags s r i t e z q =
+    q ∙ ap (sumIn tags) e
+    ∙ ap (λ (b : Bool). if b then sumOf (sumIn s) (F .made i) else sumIn tags (F .tagOfRow i)) (sym (ne-eqb (F .tagOfRow i) 0 (λ (y : F .tagOfRow i ≡ 0). z (e ∙ y))))
+
+-- the first k rows are filled
+pub record Filled (F : Family) (tags before s : List ℕ) (k : ℕ) : Type 0 where
+  pub size : length s ≡ length before
+  pub rows : (i : ℕ) → 1 ≤ i → i ≤ k → sumIn s i ≡ rowFrom F tags s i
+
+pub fill-first : (F : Family) (tags s : List ℕ) → Filled F tags s s 0
+fill-first F tags s = record { size = refl; rows = λ i l u. absurd (omega arith) }
+
+module _ (F : Family) (L : Lawful F) (tags s s′ : List ℕ) (k : ℕ) (less : k < F .rows) (same : (a : ℕ) → 1 ≤ a → a ≤ k → sumIn s′ a ≡ sumIn s a) where
+  -- a row has only earlier ones in it
+  from-same : (i : ℕ) → 1 ≤ i → i ≤ k + 1 → rowFrom F tags s i ≡ rowFrom F tags s′ i
+  unfolding rowFrom
+  from-same i l u = go (eqb (F .tagOfRow i) 0) refl
+    where
+      go : (b : Bool) → eqb (F .tagOfRow i) 0 ≡ b
+          → (if b then sumOf (sumIn s) (F .made i) else sumIn tags (F .tagOfRow i)) ≡ (if b then sumOf (sumIn s′) (F .made i) else sumIn tags (F .tagOfRow i))
+      go true e = sumOf-ext i (sumIn s) (sumIn s′) (F .made i) (L .earlier i l (omega arith) (eqb-true _ 0 e)) (λ a c d. sym (same a c (omega arith)))
+      go false e = refl
+
+pub fill-next : (F : Family) → Lawful F → (tags before s v s′ : List ℕ) (k i : ℕ) → i ≡ k + 1 → k < F .rows → Filled F tags before s k → 16 * F .rows ≤ length before
+    → length v ≡ 16 → v ≡ rowFrom F tags s i → s′ ≡ take (16 * k) s ++ (v ++ drop (16 * k + 16) s) → Filled F tags before s′ i
+unfolding sumIn
+fill-next F L tags before s v s′ k i ei less W fits long ev es = record {
+  size = ap length es ∙ written-length s k v room long ∙ W .size;
+  rows = λ j l u. go j l u (eqb j i) refl;
+}
+  where
+    room : 16 * k + 16 ≤ length s
+    room = omega (arith, W .size)
+
+    same : (a : ℕ) → 1 ≤ a → a ≤ k → sumIn s′ a ≡ sumIn s a
+    same a l u = ap (λ (x : List ℕ). slot x (a - 1)) es ∙ slot-before s k v room long (a - 1) (omega arith)
+
+    here : sumIn s′ i ≡ v
+    here = let e : i - 1 ≡ k = omega arith in ap₂ (λ (x : List ℕ) (m : ℕ). slot x m) es e ∙ slot-here s k v room long
+
+    go : (j : ℕ) → 1 ≤ j → j ≤ i → (b : Bool) → eqb j i ≡ b → sumIn s′ j ≡ rowFrom F tags s′ j
+    go j l u true q =
+        let e = eqb-true j i q in
+        ap (sumIn s′) e ∙ here ∙ ev ∙ from-same F L tags s s′ k less same i (omega arith) (omega arith) ∙ ap (rowFrom F tags s′) (sym e)
+    go j l u false q =
+        let ne = eqb-false j i q in
+        let b : j ≤ k = omega (arith, ne) in
+        same j l b ∙ W .rows j l b ∙ from-same F L tags s s′ k less same j l (omega arith)
+
+pub fill-done : (F : Family) → Lawful F → (tags before s : List ℕ) (k : ℕ) → Filled F tags before s k → F .rows ≤ k
+    → (i : ℕ) → 1 ≤ i → i ≤ F .rows → sumIn s i ≡ had F (sumIn tags) i
+unfolding rowFrom
+fill-done F L tags before s k W h i l u =
+    sym (had-all F L (sumIn tags) (sumIn s) tagged made i l u)
+  where
+    row : (i : ℕ) → 1 ≤ i → i ≤ F .rows → sumIn s i ≡ (if eqb (F .tagOfRow i) 0 then sumOf (sumIn s) (F .made i) else sumIn tags (F .tagOfRow i))
+    row i l u = W .rows i l (omega arith)
+
+    tagged : (t : ℕ) → 1 ≤ t → t ≤ F .tags → sumIn tags t ≡ sumIn s (F .rowOfTag t)
+    tagged t a b =
+        let e = L .tag-back t a b in
+        let z : F .tagOfRow (F .rowOfTag t) ≡ 0 → ⊥ = λ y. omega arith in
+        sym (row (F .rowOfTag t) (L .row-low t a b) (L .row-high t a b)
+        ∙ ap (λ (b : Bool). if b then sumOf (sumIn s) (F .made (F .rowOfTag t)) else sumIn tags (F .tagOfRow (F .rowOfTag t))) (ne-eqb _ 0 z)
+        ∙ ap (sumIn tags) e)
+
+    made : (i : ℕ) → 1 ≤ i → i ≤ F .rows → F .tagOfRow i ≡ 0 → sumIn s i ≡ sumOf (sumIn s) (F .made i)
+    made i a b z = row i a b ∙ ap (λ (t : Bool). if t then sumOf (sumIn s) (F .made i) else sumIn tags (F .tagOfRow i)) (eq-eqb _ 0 z)

@@ -3,8 +3,11 @@ use mathlib.Core.Path.{_≡_}
 use mathlib.Core.Bool.{Bool}
 use mathlib.Core.List.{List, _++_}
 use Prim.Native.Nat.{ℕ, zero, suc, _+_, _-_, _*_, _≤_}
+use lib.Dec.{eqb}
 use lib.ListN.{length, take, drop}
 use Rattle.cipher.specs.Block.{if_then_else_, _⊕_, slot}
+use Rattle.incidence.specs.Family.{Family}
+use Rattle.incidence.specs.Sum.{sumOf}
 
 -- sum i of an array
 unfoldable pub sumIn : List ℕ → ℕ → List ℕ
@@ -19,3 +22,7 @@ pub record Added (p : ℕ → Bool) (n : ℕ) (value before after : List ℕ) : 
 unfoldable pub addedAt : List ℕ → ℕ → List ℕ → List ℕ
 addedAt s zero value = s
 addedAt s (suc t) value = take (16 * t) s ++ ((slot s t ⊕ value) ++ drop (16 * t + 16) s)
+
+-- what row i's sum is, from the sums of the tags and those of earlier rows in s
+unfoldable pub rowFrom : Family → List ℕ → List ℕ → ℕ → List ℕ
+rowFrom F tags s i = if eqb (F .tagOfRow i) 0 then sumOf (sumIn s) (F .made i) else sumIn tags (F .tagOfRow i)

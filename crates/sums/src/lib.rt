@@ -2,11 +2,22 @@
 use cipher::block;
 ghost use mathlib.Core.Path.{_≡_};
 ghost use mathlib.Core.Bool.{true};
-ghost use Prim.Native.Nat.{_*_, _≤_};
+ghost use Prim.Native.Nat.{ℕ, _*_, _≤_};
+ghost use Rattle.incidence.specs.Sum.{sumOf, had};
 ghost use lib.ListN.{length};
 ghost use Rattle.incidence.specs.Family.{Family};
 ghost use Rattle.sizes.specs.Sizes.{known, familyOf};
-ghost use Rattle.sums.specs.Adding.{Added, addedAt};
+ghost use Rattle.sums.specs.Adding.{sumIn, Added, addedAt, rowFrom};
+
+// Adds a value to sum t; 0 stands for none.
+fn add_to_sum(sums: &mut [u8], t: usize, value: [u8; 16])
+    requires { ⌜ 16 * t ≤ length (now sums) ⌝ }
+    ensures { λ _. ⌜ now (sums .exit) ≡ addedAt (now (sums .entry)) t value ⌝ }
+{
+    if t != 0 {
+        block::xor_at(sums, 16 * (t - 1), value);
+    }
+}
 
 // Adds a value to the sums of all rows of item j, which stand in row order at the front of sums.
 pub fn add_to_rows(code: u64, sums: &mut [u8], j: usize, value: [u8; 16])
@@ -17,18 +28,8 @@ pub fn add_to_rows(code: u64, sums: &mut [u8], j: usize, value: [u8; 16])
     let mut k = 0;
     while k < n {
         let i = sizes::row_at(code, j, k);
-        block::xor_at(sums, 16 * (i - 1), value);
+        add_to_sum(sums, i, value);
         k += 1;
-    }
-}
-
-// Adds a value to the sum of a tag, where there is one: tag 0 stands for none.
-fn add_to_tag(sums: &mut [u8], t: usize, value: [u8; 16])
-    requires { ⌜ 16 * t ≤ length (now sums) ⌝ }
-    ensures { λ _. ⌜ now (sums .exit) ≡ addedAt (now (sums .entry)) t value ⌝ }
-{
-    if t != 0 {
-        block::xor_at(sums, 16 * (t - 1), value);
     }
 }
 
@@ -42,7 +43,56 @@ pub fn add_to_tags(code: u64, sums: &mut [u8], j: usize, value: [u8; 16])
     let mut k = 0;
     while k < n {
         let i = sizes::row_at(code, j, k);
-        add_to_tag(sums, sizes::tag_of_row(code, i), value);
+        add_to_sum(sums, sizes::tag_of_row(code, i), value);
         k += 1;
+    }
+}
+
+// The XOR of the sums of the rows that row i is made of.
+fn sum_made(code: u64, sums: &[u8], i: usize) -> [u8; 16]
+    requires { ⌜ known code ≡ true ⌝ }
+    requires { ⌜ (1 ≤ i) × (i ≤ familyOf code .rows) × (familyOf code .tagOfRow i ≡ 0) ⌝ }
+    requires { ⌜ 16 * familyOf code .rows ≤ length (now sums) ⌝ }
+    ensures { λ r. ⌜ r ≡ sumOf (sumIn (now (sums .entry))) (familyOf code .made i) ⌝ }
+{
+    let mut r = [0u8; 16];
+    let mut k = sizes::made_count(code, i);
+    while 0 < k {
+        k -= 1;
+        let a = sizes::made_at(code, i, k);
+        let next = block::xor(block::block_at(sums, 16 * (a - 1)), r);
+        r = next;
+    }
+    r
+}
+
+// Row i's sum: its tag's, or that of the rows that it is made of.
+fn row_from(code: u64, tags: &[u8], sums: &[u8], i: usize) -> [u8; 16]
+    requires { ⌜ known code ≡ true ⌝ }
+    requires { ⌜ (1 ≤ i) × (i ≤ familyOf code .rows) ⌝ }
+    requires { ⌜ (16 * familyOf code .tags ≤ length (now tags)) × (16 * familyOf code .rows ≤ length (now sums)) ⌝ }
+    ensures { λ r. ⌜ r ≡ rowFrom (familyOf code) (now (tags .entry)) (now (sums .entry)) i ⌝ }
+{
+    let t = sizes::tag_of_row(code, i);
+    if t == 0 {
+        return sum_made(code, sums, i);
+    }
+    block::block_at(tags, 16 * (t - 1))
+}
+
+// Fills the front of sums with the sums of all rows, had from those of the tags (document 01: "had back from its tag or, for a row without
+// one, by its pattern").
+pub fn fill_rows(code: u64, tags: &[u8], sums: &mut [u8])
+    requires { ⌜ known code ≡ true ⌝ }
+    requires { ⌜ (16 * familyOf code .tags ≤ length (now tags)) × (16 * familyOf code .rows ≤ length (now sums)) ⌝ }
+    ensures { λ _. ⌜ ((i : ℕ) → 1 ≤ i → i ≤ familyOf code .rows → sumIn (now (sums .exit)) i ≡ had (familyOf code) (sumIn (now (tags .entry))) i) ⌝ }
+{
+    let n = sizes::rows(code);
+    let mut k = 0;
+    while k < n {
+        let i = k + 1;
+        let value = row_from(code, tags, sums, i);
+        block::put_at(sums, 16 * k, value);
+        k = i;
     }
 }

@@ -1,20 +1,18 @@
 -- Each turn adds the value to one row (Walking).
-use mathlib.Core.Path.{_≡_, sym}
+use mathlib.Core.Path.{_≡_, refl, sym}
 use Prim.Native.Nat.{_-_}
 use native.Mathlib.Omega.{arith}
 use lib.ListN.{length}
 use mathlib.Core.Path.{subst}
-use Rattle.cipher.specs.Block.{slot}
 use Rattle.incidence.proofs.Listing.{Member, rowsOf-at}
 use Rattle.sizes.specs.Sizes.{familyOf}
-use Rattle.sizes.proofs.Laws.{rows-few}
-use Rattle.sums.proofs.Walking.{Walked, walked-first, walked-next, walked-done, rows-counted}
+use Rattle.sums.proofs.Walking.{Walked, walked-first, walked-next, walked-done, rows-counted, each-row}
 use borrow.Author.Needs.{needs}
 use Rattle.sums.proofs.add_to_rows.Statement.{statement}
 use Rattle.sums.proofs.add_to_rows.Tie as tie
 
 abbrev Inv-loop : tie.InvT-loop
-Inv-loop code sums₀ j value n k₀ sums k = Walked (λ i. familyOf code .on i j) (familyOf code .rows) value sums₀ sums k
+Inv-loop code sums₀ j value n k₀ sums k = Walked (λ i. familyOf code .on i j) (λ i. i) (familyOf code .rows) value sums₀ sums k
 
 abbrev μ-loop : tie.MeasureT-loop
 μ-loop code sums₀ j value n k₀ sums k = n - k
@@ -23,40 +21,20 @@ row-count-requires : tie.Need-row-count-requires Inv-loop μ-loop
 row-count-requires c κs = search needs
 
 loop-holds : tie.Need-loop-holds Inv-loop μ-loop
-loop-holds c = walked-first _ _ _ _
+loop-holds c = walked-first _ _ _ _ _
 
 row-at-requires : tie.Need-row-at-requires Inv-loop μ-loop
 row-at-requires c κs = search needs
 
-sub-xor-at : tie.Need-sub-xor-at Inv-loop μ-loop
-sub-xor-at c =
+add-to-sum-requires : tie.Need-add-to-sum-requires Inv-loop μ-loop
+add-to-sum-requires c κs =
     let r = c .before in
     let l = r .before .before in
     let d = l .before .before .before in
     let F = familyOf (d .args .code) in
     let m : Member (λ i. F .on i (d .args .j)) (F .rows) (l .loop .k) (r .row-at .result)
     = subst (Member (λ i. F .on i (d .args .j)) (F .rows) (l .loop .k)) (sym (r .row-at .ensures)) (rowsOf-at F (d .args .j) (l .loop .k) (omega (arith, l .before .row-count .ensures))) in
-    omega (arith, m .low)
-
-mul-xor-at : tie.Need-mul-xor-at Inv-loop μ-loop
-mul-xor-at c =
-    let r = c .before in
-    let l = r .before .before in
-    let d = l .before .before .before in
-    let F = familyOf (d .args .code) in
-    let m : Member (λ i. F .on i (d .args .j)) (F .rows) (l .loop .k) (r .row-at .result)
-    = subst (Member (λ i. F .on i (d .args .j)) (F .rows) (l .loop .k)) (sym (r .row-at .ensures)) (rowsOf-at F (d .args .j) (l .loop .k) (omega (arith, l .before .row-count .ensures))) in
-    omega (arith, m .high, rows-few (d .args .code))
-
-xor-at-requires : tie.Need-xor-at-requires Inv-loop μ-loop
-xor-at-requires c κs =
-    let r = c .before in
-    let l = r .before .before in
-    let d = l .before .before .before in
-    let F = familyOf (d .args .code) in
-    let m : Member (λ i. F .on i (d .args .j)) (F .rows) (l .loop .k) (r .row-at .result)
-    = subst (Member (λ i. F .on i (d .args .j)) (F .rows) (l .loop .k)) (sym (r .row-at .ensures)) (rowsOf-at F (d .args .j) (l .loop .k) (omega (arith, l .before .row-count .ensures))) in
-    omega (arith, m .low, m .high, l .loop .inv .size)
+    omega (arith, m .high, l .loop .inv .size, d .pre)
 
 add-k : tie.Need-add-k Inv-loop μ-loop
 add-k c = search needs
@@ -65,7 +43,6 @@ loop-less : tie.Need-loop-less Inv-loop μ-loop
 loop-less c = search needs
 
 loop-again : tie.Need-loop-again Inv-loop μ-loop
-unfolding slot
 loop-again c =
     let r = c .before .before .before .before in
     let l = r .before .before in
@@ -74,7 +51,8 @@ loop-again c =
     let m : Member (λ i. F .on i (d .args .j)) (F .rows) (l .loop .k) (r .row-at .result)
     = subst (Member (λ i. F .on i (d .args .j)) (F .rows) (l .loop .k)) (sym (r .row-at .ensures)) (rowsOf-at F (d .args .j) (l .loop .k) (omega (arith, l .before .row-count .ensures))) in
     let h : length (d .args .value) ≡ 16 = search needs in
-    walked-next _ _ _ _ (l .loop .sums) (l .loop .k) (r .row-at .result) (l .loop .inv) m (d .pre) h _ (c .before .before .xor-at .ensures)
+    walked-next (λ i. F .on i (d .args .j)) (F .rows) (F .rows) (λ i. i) (λ i. i) (each-row (F .rows)) (d .args .value) _ (l .loop .sums) (l .loop .k) (r .row-at .result) (l .loop .inv) m (d .pre) h _ _
+    refl (c .before .before .add-to-sum .ensures)
 
 same-length : tie.Need-same-length Inv-loop μ-loop
 same-length c = search needs
@@ -83,7 +61,9 @@ returns : tie.Need-returns Inv-loop μ-loop
 returns c =
     let l = c .before in
     let d = l .before .before .before in
-    walked-done _ _ _ _ _ (l .loop .k) (l .loop .inv) (omega (arith, l .before .row-count .ensures, rows-counted (familyOf (d .args .code)) (d .args .j)))
+    let F = familyOf (d .args .code) in
+    walked-done (λ i. F .on i (d .args .j)) (F .rows) (F .rows) (λ i. i) (λ i. i) (each-row (F .rows)) _ _ _ (l .loop .k) (l .loop .inv)
+    (omega (arith, l .before .row-count .ensures, rows-counted F (d .args .j)))
 
 pub add-to-rows-spec : {M : Type 1} → statement M
 add-to-rows-spec =
@@ -94,9 +74,7 @@ add-to-rows-spec =
     row-count-requires
     loop-holds
     row-at-requires
-    sub-xor-at
-    mul-xor-at
-    xor-at-requires
+    add-to-sum-requires
     add-k
     loop-less
     loop-again

@@ -7,13 +7,13 @@ use mathlib.Core.Path.{subst}
 use Rattle.incidence.proofs.Listing.{Member, rowsOf-at}
 use Rattle.sizes.specs.Sizes.{familyOf}
 use Rattle.sizes.proofs.Laws.{lawful}
-use Rattle.sums.proofs.Walking.{rows-counted, TagsWalked, tags-first, tags-next, tags-done}
+use Rattle.sums.proofs.Walking.{Walked, walked-first, walked-next, walked-done, rows-counted, each-tag}
 use borrow.Author.Needs.{needs}
 use Rattle.sums.proofs.add_to_tags.Statement.{statement}
 use Rattle.sums.proofs.add_to_tags.Tie as tie
 
 abbrev Inv-loop : tie.InvT-loop
-Inv-loop code sums₀ j value n k₀ sums k = TagsWalked (familyOf code) j value sums₀ sums k
+Inv-loop code sums₀ j value n k₀ sums k = Walked (λ i. familyOf code .on i j) (familyOf code .rowOfTag) (familyOf code .tags) value sums₀ sums k
 
 abbrev μ-loop : tie.MeasureT-loop
 μ-loop code sums₀ j value n k₀ sums k = n - k
@@ -22,7 +22,7 @@ row-count-requires : tie.Need-row-count-requires Inv-loop μ-loop
 row-count-requires c κs = search needs
 
 loop-holds : tie.Need-loop-holds Inv-loop μ-loop
-loop-holds c = tags-first _ _ _ _
+loop-holds c = walked-first _ _ _ _ _
 
 row-at-requires : tie.Need-row-at-requires Inv-loop μ-loop
 row-at-requires c κs = search needs
@@ -30,8 +30,8 @@ row-at-requires c κs = search needs
 tag-of-row-requires : tie.Need-tag-of-row-requires Inv-loop μ-loop
 tag-of-row-requires c κs = search needs
 
-add-to-tag-requires : tie.Need-add-to-tag-requires Inv-loop μ-loop
-add-to-tag-requires c κs =
+add-to-sum-requires : tie.Need-add-to-sum-requires Inv-loop μ-loop
+add-to-sum-requires c κs =
     let r = c .before .before in
     let l = r .before .before in
     let d = l .before .before .before in
@@ -55,8 +55,8 @@ loop-again c =
     let m : Member (λ i. F .on i (d .args .j)) (F .rows) (l .loop .k) (r .row-at .result)
     = subst (Member (λ i. F .on i (d .args .j)) (F .rows) (l .loop .k)) (sym (r .row-at .ensures)) (rowsOf-at F (d .args .j) (l .loop .k) (omega (arith, l .before .row-count .ensures))) in
     let h : length (d .args .value) ≡ 16 = search needs in
-    tags-next F (lawful (d .args .code) (d .pre .0)) (d .args .j) (d .args .value) _ (l .loop .sums) (l .loop .k) (r .row-at .result) (l .loop .inv) m (d .pre .1) h _ _
-    (c .before .before .before .tag-of-row .ensures) (c .before .before .add-to-tag .ensures)
+    walked-next (λ i. F .on i (d .args .j)) (F .rows) (F .tags) (F .rowOfTag) (F .tagOfRow) (each-tag F (lawful (d .args .code) (d .pre .0))) (d .args .value) _ (l .loop .sums) (l .loop .k) (r .row-at .result) (l .loop .inv) m (d .pre .1) h _ _
+    (c .before .before .before .tag-of-row .ensures) (c .before .before .add-to-sum .ensures)
 
 same-length : tie.Need-same-length Inv-loop μ-loop
 same-length c = search needs
@@ -65,8 +65,9 @@ returns : tie.Need-returns Inv-loop μ-loop
 returns c =
     let l = c .before in
     let d = l .before .before .before in
-    tags-done (familyOf (d .args .code)) (lawful (d .args .code) (d .pre .0)) (d .args .j) _ _ _ (l .loop .k) (l .loop .inv)
-    (omega (arith, l .before .row-count .ensures, rows-counted (familyOf (d .args .code)) (d .args .j)))
+    let F = familyOf (d .args .code) in
+    walked-done (λ i. F .on i (d .args .j)) (F .rows) (F .tags) (F .rowOfTag) (F .tagOfRow) (each-tag F (lawful (d .args .code) (d .pre .0))) _ _ _ (l .loop .k) (l .loop .inv)
+    (omega (arith, l .before .row-count .ensures, rows-counted F (d .args .j)))
 
 pub add-to-tags-spec : {M : Type 1} → statement M
 add-to-tags-spec =
@@ -78,7 +79,7 @@ add-to-tags-spec =
     loop-holds
     row-at-requires
     tag-of-row-requires
-    add-to-tag-requires
+    add-to-sum-requires
     add-k
     loop-less
     loop-again

@@ -4,8 +4,8 @@ use native.Mathlib.Omega.{arith}
 use Rattle.cipher.specs.Block.{slot}
 use Rattle.sums.proofs.Walking.{added-none, added-some}
 use borrow.Author.Needs.{needs}
-use Rattle.sums.proofs.add_to_tag.Statement.{statement}
-use Rattle.sums.proofs.add_to_tag.Tie as tie
+use Rattle.sums.proofs.add_to_sum.Statement.{statement}
+use Rattle.sums.proofs.add_to_sum.Tie as tie
 
 sub-xor-at : tie.Need-sub-xor-at
 sub-xor-at c = omega (arith, c .before .if1 .taken)
@@ -28,6 +28,6 @@ returns c =
 returns-2 : tie.Need-returns-2
 returns-2 c = added-none (c .before .before .args .sums .now) (c .before .before .args .value) (c .before .before .args .t) (c .if1 .left)
 
-pub add-to-tag-spec : {M : Type 1} → statement M
-add-to-tag-spec =
+pub add-to-sum-spec : {M : Type 1} → statement M
+add-to-sum-spec =
     tie.close (tie.spec sub-xor-at mul-xor-at xor-at-requires same-length returns returns-2)
