@@ -1,4 +1,4 @@
--- Blocks written one after another to the front of a list, and what a call leaves.
+-- Every block of the input written to the front of a buffer, and what a call leaves.
 -- Assumes nothing.
 use Prim.Native.Nat.{ℕ, suc, _+_, _*_, _-_, _/_, _≤_, _<_}
 use mathlib.Core.Path.{_≡_, refl, sym, ap, _∙_}
@@ -13,46 +13,27 @@ use borrow.Author.Tests.{eqb-true, leb-true}
 use lib.Dec.{eqb, leb}
 use Rattle.cipher.specs.Aes.{keyExpansion, cipher, invCipher, encipher, decipher}
 use Rattle.cipher.specs.Cmac.{cmac}
-use Rattle.bench.specs.Lent.{fits, answer, firstBlocks, eachBlock, onto, written}
+use Rattle.cipher.specs.Block.{slot, listOf}
+use Rattle.cipher.proofs.Slots.{Front, front-next, front-done}
+use Rattle.bench.specs.Lent.{fits, answer, eachBlock, onto, written}
 
--- the first n blocks of s through f stand at the front of what o was
-pub record Front (f : List ℕ → List ℕ) (s o : List ℕ) (n : ℕ) (out : List ℕ) : Type 0 where
-  pub count : n ≤ length s / 16
-  pub len : length (firstBlocks f s n) ≡ n * 16
-  pub size : length out ≡ length o
-  pub bytes : out ≡ firstBlocks f s n ++ drop (n * 16) o
+-- ---- each block of s through f
 
-pub front-first : (f : List ℕ → List ℕ) (s o : List ℕ) → Front f s o 0 o
-unfolding firstBlocks
-front-first f s o = record { count = omega arith; len = refl; size = refl; bytes = refl }
+pub blocks-next : (f : List ℕ → List ℕ) (s o : List ℕ) (n : ℕ) (out block r out′ : List ℕ) → Front (λ k. f (slot s k)) o n out
+    → n < length s / 16 → length s ≤ length o → block ≡ take 16 (drop (16 * n) s) → r ≡ f block → length r ≡ 16
+    → out′ ≡ take (16 * n) out ++ (r ++ drop (16 * n + 16) out)
+    → Front (λ k. f (slot s k)) o (n + 1) out′
+unfolding slot
+blocks-next f s o n out block r out′ F h room b e l g = front-next (λ k. f (slot s k)) o n out r out′ F (omega arith) (e ∙ ap f b) l g
 
-pub front-next : (f : List ℕ → List ℕ) (s o : List ℕ) (n : ℕ) (out block r out′ : List ℕ) → Front f s o n out → n < length s / 16
-    → length s ≤ length o → block ≡ take 16 (drop (n * 16) s) → r ≡ f block → length r ≡ 16
-    → out′ ≡ take (n * 16) out ++ (r ++ drop (n * 16 + 16) out)
-    → Front f s o (n + 1) out′
-unfolding firstBlocks
-front-next f s o n out block r out′ k h room b e l g =
-    let P = firstBlocks f s n in
-    let m : (n + 1) * 16 ≡ n * 16 + 16 = omega arith in
-    let v : f (take 16 (drop (n * 16) s)) ≡ r = rw (e, b) refl in
-    let t : take (n * 16) out ≡ P = rw (k .bytes) (take-at P (drop (n * 16) o) (n * 16) (k .len)) in
-    let q : drop (n * 16) out ≡ drop (n * 16) o = rw (k .bytes) (drop-at P (drop (n * 16) o) (n * 16) (k .len)) in
-    let d : drop (n * 16 + 16) out ≡ drop (n * 16 + 16) o = rw (← drop-drop 16 (n * 16) out, ← drop-drop 16 (n * 16) o, q) refl in
-    let w : out′ ≡ (P ++ r) ++ drop (n * 16 + 16) o = g ∙ rw (t, d, append-assoc) refl in
-    let p : length (P ++ r) ≡ n * 16 + 16 = length-append P r ∙ omega (arith, k .len) in
-    record {
-      count = omega arith;
-      len = rw (m, add-one n, v) p;
-      size = rw w (simp (length-append, length-drop) (omega (arith, k .len)));
-      bytes = rw (m, add-one n, v) w;
-    }
-
-pub front-done : (f : List ℕ → List ℕ) (s o : List ℕ) (n : ℕ) (out : List ℕ) → Front f s o n out → length s / 16 ≤ n
+pub blocks-done : (f : List ℕ → List ℕ) (s o : List ℕ) (n : ℕ) (out : List ℕ) → Front (λ k. f (slot s k)) o n out → n ≡ length s / 16
     → out ≡ onto o (eachBlock f s)
 unfolding eachBlock onto
-front-done f s o n out k h =
-    let e : length s / 16 ≡ n = omega (arith, k .count) in
-    rw (e, k .len) (k .bytes)
+blocks-done f s o n out F e =
+    let g : ℕ → List ℕ = λ k. f (slot s k) in
+    front-done g o n (length s / 16) out F e
+    ∙ ap (λ (m : ℕ). listOf g (length s / 16) ++ drop m o)
+    (ap (λ (k : ℕ). 16 * k) (sym e) ∙ sym (F .long) ∙ ap (λ (k : ℕ). length (listOf g k)) e)
 
 -- what the test that key and buffer fit tells
 both-left : (a b : Bool) → a && b ≡ true → a ≡ true

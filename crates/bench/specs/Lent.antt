@@ -1,9 +1,10 @@
 -- When the functions that C measures do their work, and what they leave in the buffer lent to them. Assumes nothing.
 use mathlib.Core.Bool.{Bool, cond, _&&_}
-use mathlib.Core.List.{List, [], _++_}
-use Prim.Native.Nat.{ℕ, zero, suc, _*_, _/_}
+use mathlib.Core.List.{List, _++_}
+use Prim.Native.Nat.{ℕ, _/_}
 use lib.Dec.{eqb, leb}
-use lib.ListN.{length, take, drop}
+use lib.ListN.{length, drop}
+use Rattle.cipher.specs.Block.{slot, listOf}
 
 -- a key of 16 bytes, and room for n bytes
 unfoldable pub fits : List ℕ → ℕ → List ℕ → Bool
@@ -13,14 +14,9 @@ fits key n out = eqb (length key) 16 && leb n (length out)
 unfoldable pub answer : Bool → ℕ
 answer fitting = cond fitting 1 0
 
--- the first n blocks of s, each through f
-unfoldable pub firstBlocks : (List ℕ → List ℕ) → List ℕ → ℕ → List ℕ
-firstBlocks f s zero = []
-firstBlocks f s (suc n) = firstBlocks f s n ++ f (take 16 (drop (n * 16) s))
-
 -- every whole block of s through f
 unfoldable pub eachBlock : (List ℕ → List ℕ) → List ℕ → List ℕ
-eachBlock f s = firstBlocks f s (length s / 16)
+eachBlock f s = listOf (λ k. f (slot s k)) (length s / 16)
 
 -- a buffer with bytes at its front; those behind stay
 unfoldable pub onto : List ℕ → List ℕ → List ℕ

@@ -20,8 +20,8 @@ fn encipher_blocks(w: [u8; 176], input: &[u8], out: &mut [u8])
     let count = input.len() / 16;
     let mut n = 0;
     while n < count {
-        let block = block_at(input, n * 16);
-        put_at(out, n * 16, aes::encipher_with(w, block));
+        let block = block_at(input, 16 * n);
+        put_at(out, 16 * n, aes::encipher_with(w, block));
         n += 1;
     }
 }
@@ -34,8 +34,8 @@ fn decipher_blocks(w: [u8; 176], input: &[u8], out: &mut [u8])
     let count = input.len() / 16;
     let mut n = 0;
     while n < count {
-        let block = block_at(input, n * 16);
-        put_at(out, n * 16, aes::decipher_with(w, block));
+        let block = block_at(input, 16 * n);
+        put_at(out, 16 * n, aes::decipher_with(w, block));
         n += 1;
     }
 }

@@ -2,7 +2,7 @@
 -- Cited by the contracts of this crate and of those above. Assumes nothing.
 use mathlib.Core.Path.{_≡_}
 use mathlib.Core.Bool.{Bool, true, false, _&&_}
-use mathlib.Core.List.{List, [], _∷_}
+use mathlib.Core.List.{List, [], _∷_, _++_}
 use Prim.Native.Nat.{ℕ, zero, suc, _*_, _<_}
 use lib.Dec.{eqb}
 use lib.ListN.{length, getD, take, drop, replicate}
@@ -43,6 +43,11 @@ tabulate (suc n) f = f 0 ∷ tabulate n (λ i. f (suc i))
 -- block k, from 0, of a list of blocks
 unfoldable pub slot : List ℕ → ℕ → List ℕ
 slot s k = take 16 (drop (16 * k) s)
+
+-- f 0, f 1, .. one after another, n of them
+unfoldable pub listOf : (ℕ → List ℕ) → ℕ → List ℕ
+listOf f zero = []
+listOf f (suc k) = listOf f k ++ f k
 
 -- t is a table of f over the bytes
 abbrev pub Tabulates : List ℕ → (ℕ → ℕ) → Type 0

@@ -1,11 +1,7 @@
 -- Masks and hashes are blocks; a tag gives its sum back, and a sum its tag; and what the code computes with keys made ready.
-use mathlib.Core.Path.{_≡_, refl, sym, ap, ap₂, _∙_}
-use mathlib.Core.List.{List, _++_, append-assoc}
-use Prim.Native.Nat.{ℕ, zero, suc, _+_, _*_, _≤_}
-use native.Mathlib.Omega.{arith}
-use native.Mathlib.Numerals.{add-one}
-use lib.ListN.{length, take, drop, length-append, length-drop}
-use lib.Seq.{take-at, drop-at, drop-drop}
+use mathlib.Core.Path.{_≡_, ap, ap₂, _∙_}
+use mathlib.Core.List.{List, _++_}
+use Prim.Native.Nat.{ℕ, zero, suc}
 use Rattle.cipher.specs.Block.{Bytes, Block, _⊕_, zeros}
 use Rattle.cipher.specs.Number.{bigEndian}
 use Rattle.cipher.specs.Double.{double}
@@ -15,7 +11,7 @@ use Rattle.cipher.proofs.Xor.{⊕-block, ⊕-comm, block-cancel, zeros-block, a
 use Rattle.cipher.proofs.Numbers.{bigEndian-bytes}
 use Rattle.cipher.proofs.Doubling.{double-block}
 use Rattle.cipher.proofs.Laws.{encipher-block, decipher-block, decipher-encipher, encipher-decipher, cmac-block, encipher-is, decipher-is, mac-is}
-use Rattle.keyed.specs.Keyed.{itemHash, mask, tagOf, sumOfTag, listOf, tagsOf, sumsOf}
+use Rattle.keyed.specs.Keyed.{itemHash, mask, tagOf, sumOfTag}
 
 -- ---- blocks
 
@@ -83,37 +79,3 @@ pub sum-code : (key w m tag x y r : List ℕ) (i : ℕ) → x ≡ m ⊕ tag → 
 unfolding sumOfTag
 sum-code key w m tag x y r i ex ey er ew em =
     er ∙ ap₂ _⊕_ em (ey ∙ decipher-is key w x ew ∙ ap (decipher key) (ex ∙ ap (λ (t : List ℕ). t ⊕ tag) em))
-
--- ---- lists of blocks, one after another
-
--- the first k of them stand at the front of what o was
-pub record Front (f : ℕ → List ℕ) (o : List ℕ) (k : ℕ) (out : List ℕ) : Type 0 where
-  pub long : length (listOf f k) ≡ 16 * k
-  pub size : length out ≡ length o
-  pub so : out ≡ listOf f k ++ drop (16 * k) o
-
-pub front-first : (f : ℕ → List ℕ) (o : List ℕ) → Front f o 0 o
-unfolding listOf
-front-first f o = record { long = refl; size = refl; so = refl }
-
-pub front-next : (f : ℕ → List ℕ) (o : List ℕ) (k : ℕ) (out r out′ : List ℕ) → Front f o k out → 16 * (k + 1) ≤ length o → r ≡ f k → length r ≡ 16
-    → out′ ≡ take (16 * k) out ++ (r ++ drop (16 * k + 16) out) → Front f o (k + 1) out′
-unfolding listOf
-front-next f o k out r out′ F h e l g =
-    let P = listOf f k in
-    let m : 16 * (k + 1) ≡ 16 * k + 16 = omega arith in
-    let t : take (16 * k) out ≡ P = ap (take (16 * k)) (F .so) ∙ take-at P (drop (16 * k) o) (16 * k) (F .long) in
-    let d : drop (16 * k + 16) out ≡ drop (16 * k + 16) o
-    = sym (drop-drop 16 (16 * k) out) ∙ ap (λ (x : List ℕ). drop 16 (drop (16 * k) x)) (F .so)
-    ∙ ap (drop 16) (drop-at P (drop (16 * k) o) (16 * k) (F .long)) ∙ drop-drop 16 (16 * k) o in
-    let w : out′ ≡ (P ++ r) ++ drop (16 * k + 16) o = g ∙ ap₂ (λ (x y : List ℕ). x ++ (r ++ y)) t d ∙ sym (append-assoc P r (drop (16 * k + 16) o)) in
-    let q : length (P ++ r) ≡ 16 * k + 16 = length-append P r ∙ omega (arith, F .long) in
-    let v : P ++ r ≡ listOf f (k + 1) = ap (λ (x : List ℕ). P ++ x) e ∙ ap (listOf f) (sym (add-one k)) in
-    record {
-      long = ap length (sym v) ∙ q ∙ sym m;
-      size = ap length w ∙ simp (length-append, length-drop) (omega (arith, F .long));
-      so = w ∙ ap₂ (λ (x : List ℕ) (y : ℕ). x ++ drop y o) v (sym m);
-    }
-
-pub front-done : (f : ℕ → List ℕ) (o : List ℕ) (k n : ℕ) (out : List ℕ) → Front f o k out → k ≡ n → out ≡ listOf f n ++ drop (16 * n) o
-front-done f o k n out F e = F .so ∙ ap (λ (m : ℕ). listOf f m ++ drop (16 * m) o) e

@@ -1,7 +1,7 @@
 -- The keyed functions of the scheme (000, section 4.3: F and G; document 01, 'Keys and codes'). Assumes nothing.
-use mathlib.Core.List.{List, [], _++_}
+use mathlib.Core.List.{List, _++_}
 use Prim.Native.Nat.{ℕ, zero, suc}
-use Rattle.cipher.specs.Block.{_⊕_, zeros, slot}
+use Rattle.cipher.specs.Block.{_⊕_, zeros, slot, listOf}
 use Rattle.cipher.specs.Number.{bigEndian}
 use Rattle.cipher.specs.Double.{double}
 use Rattle.cipher.specs.Aes.{encipher, decipher}
@@ -23,11 +23,6 @@ tagOf key i sum = mask key i ⊕ encipher key (mask key i ⊕ sum)
 -- "The sum is had back from a tag by the deciphering."
 unfoldable pub sumOfTag : List ℕ → ℕ → List ℕ → List ℕ
 sumOfTag key i tag = mask key i ⊕ decipher key (mask key i ⊕ tag)
-
--- f 0, f 1, .. one after another, n of them
-unfoldable pub listOf : (ℕ → List ℕ) → ℕ → List ℕ
-listOf f zero = []
-listOf f (suc k) = listOf f k ++ f k
 
 -- the tags 1 to n of the sums that stand one after another in s
 unfoldable pub tagsOf : List ℕ → List ℕ → ℕ → List ℕ

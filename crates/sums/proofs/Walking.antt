@@ -11,14 +11,14 @@ use lib.Seq.{drop-length, drop-cons}
 use borrow.Author.Tests.{lt-ltb, le-ltb, ltb-true, ltb-false, eqb-true, eqb-false, eq-eqb, ne-eqb}
 use Rattle.cipher.specs.Block.{if_then_else_, _⊕_, slot, zeros}
 use Rattle.cipher.proofs.Xor.{⊕-length}
-use Rattle.cipher.proofs.Slots.{written, written-length, slot-here, slot-before, slot-after, slot-length}
+use Rattle.cipher.proofs.Slots.{written, written-length, slot-here, slot-before, slot-after, drop-after, slot-length}
 use Rattle.incidence.specs.Count.{count, listed}
 use Rattle.incidence.specs.Sum.{sumOf, had}
 use Rattle.incidence.specs.Family.{Family, Lawful, rowsOf}
 use Rattle.incidence.proofs.Listing.{Member, listed-rank, listed-length}
 use Rattle.incidence.proofs.Counting.{count-before}
 use Rattle.incidence.proofs.Sums.{sumOf-ext, had-all}
-use Rattle.sums.specs.Adding.{sumIn, Added, addedAt, rowFrom}
+use Rattle.sums.specs.Adding.{sumIn, Holds, Added, addedAt, rowFrom}
 
 -- picked among the first k that pass
 abbrev pub passed : (ℕ → Bool) → ℕ → ℕ → Bool
@@ -44,6 +44,9 @@ module _ (s : List ℕ) (i : ℕ) (value : List ℕ) (low : 1 ≤ i) (fits : 16 
   pub put-here : sumIn (written s (i - 1) (slot s (i - 1) ⊕ value)) i ≡ sumIn s i ⊕ value
   unfolding sumIn
   put-here = slot-here s (i - 1) (slot s (i - 1) ⊕ value) room new-long
+
+  pub put-rest : (n : ℕ) → i ≤ n → drop (16 * n) (written s (i - 1) (slot s (i - 1) ⊕ value)) ≡ drop (16 * n) s
+  put-rest n h = drop-after s (i - 1) (slot s (i - 1) ⊕ value) room new-long (16 * n) (omega arith)
 
   pub put-other : (j : ℕ) → 1 ≤ j → (j ≡ i → ⊥) → sumIn (written s (i - 1) (slot s (i - 1) ⊕ value)) j ≡ sumIn s j
   unfolding sumIn
@@ -109,11 +112,13 @@ each-tag F L = record { low = L .row-low; high = L .row-high; back = L .tag-back
 pub record Walked (p : ℕ → Bool) (rowOf : ℕ → ℕ) (n : ℕ) (value before after : List ℕ) (k : ℕ) : Type 0 where
   pub size : length after ≡ length before
   pub sums : (t : ℕ) → 1 ≤ t → t ≤ n → sumIn after t ≡ (if passed p k (rowOf t) then sumIn before t ⊕ value else sumIn before t)
+  pub rest : drop (16 * n) after ≡ drop (16 * n) before
 
 pub walked-first : (p : ℕ → Bool) (rowOf : ℕ → ℕ) (n : ℕ) (value s : List ℕ) → Walked p rowOf n value s s 0
 walked-first p rowOf n value s = record {
   size = refl;
   sums = λ t l u. ap (λ (b : Bool). if b then sumIn s t ⊕ value else sumIn s t) (sym (not-passed p 0 (rowOf t) (omega arith)));
+  rest = refl;
 }
 
 -- what the code writes for a sum
@@ -144,6 +149,7 @@ module _ (p : ℕ → Bool) (rows n : ℕ) (rowOf sumOfRow : ℕ → ℕ) (P : P
   without z = record {
     size = W .size;
     sums = λ t l u. W .sums t l u ∙ elsewhere t l u (λ e. no t l (sym (P .back t l u) ∙ ap sumOfRow e ∙ z));
+    rest = W .rest;
   }
     where
       no : (t : ℕ) → 1 ≤ t → t ≡ 0 → ⊥
@@ -163,6 +169,7 @@ module _ (p : ℕ → Bool) (rows n : ℕ) (rowOf sumOfRow : ℕ → ℕ) (P : P
     with-sum s′ e = record {
       size = ap length e ∙ put-size s m value some wide long ∙ W .size;
       sums = λ t l u. ap (λ (x : List ℕ). sumIn x t) e ∙ go t l u (eqb t m) refl;
+      rest = ap (drop (16 * n)) e ∙ put-rest s m value some wide long n last ∙ W .rest;
     }
       where
         here : sumIn (written s (m - 1) (slot s (m - 1) ⊕ value)) m ≡ (if passed p (k + 1) (rowOf m) then sumIn before m ⊕ value else sumIn before m)
@@ -197,6 +204,7 @@ pub walked-done : (p : ℕ → Bool) (rows n : ℕ) (rowOf sumOfRow : ℕ → �
 walked-done p rows n rowOf sumOfRow P value before s k W h = record {
   size = W .size;
   sums = λ t l u. W .sums t l u ∙ ap (λ (b : Bool). if b then sumIn before t ⊕ value else sumIn before t) (all (rowOf t) (P .low t l u) (P .high t l u) (p (rowOf t)) refl);
+  rest = W .rest;
 }
   where
     all : (i : ℕ) → 1 ≤ i → i ≤ rows → (b : Bool) → p i ≡ b → passed p k i ≡ p i
@@ -234,9 +242,10 @@ from-tag F tags s r i t e z q =
 pub record Filled (F : Family) (tags before s : List ℕ) (k : ℕ) : Type 0 where
   pub size : length s ≡ length before
   pub rows : (i : ℕ) → 1 ≤ i → i ≤ k → sumIn s i ≡ rowFrom F tags s i
+  pub rest : drop (16 * F .rows) s ≡ drop (16 * F .rows) before
 
 pub fill-first : (F : Family) (tags s : List ℕ) → Filled F tags s s 0
-fill-first F tags s = record { size = refl; rows = λ i l u. absurd (omega arith) }
+fill-first F tags s = record { size = refl; rows = λ i l u. absurd (omega arith); rest = refl }
 
 module _ (F : Family) (L : Lawful F) (tags s s′ : List ℕ) (k : ℕ) (less : k < F .rows) (same : (a : ℕ) → 1 ≤ a → a ≤ k → sumIn s′ a ≡ sumIn s a) where
   -- a row has only earlier ones in it
@@ -255,6 +264,7 @@ unfolding sumIn
 fill-next F L tags before s v s′ k i ei less W fits long ev es = record {
   size = ap length es ∙ written-length s k v room long ∙ W .size;
   rows = λ j l u. go j l u (eqb j i) refl;
+  rest = ap (drop (16 * F .rows)) es ∙ drop-after s k v room long (16 * F .rows) (omega arith) ∙ W .rest;
 }
   where
     room : 16 * k + 16 ≤ length s
@@ -276,10 +286,13 @@ fill-next F L tags before s v s′ k i ei less W fits long ev es = record {
         same j l b ∙ W .rows j l b ∙ from-same F L tags s s′ k less same j l (omega arith)
 
 pub fill-done : (F : Family) → Lawful F → (tags before s : List ℕ) (k : ℕ) → Filled F tags before s k → F .rows ≤ k
-    → (i : ℕ) → 1 ≤ i → i ≤ F .rows → sumIn s i ≡ had F (sumIn tags) i
+    → Holds (F .rows) (had F (sumIn tags)) before s
 unfolding rowFrom
-fill-done F L tags before s k W h i l u =
-    sym (had-all F L (sumIn tags) (sumIn s) tagged made i l u)
+fill-done F L tags before s k W h = record {
+  size = W .size;
+  sums = λ i l u. sym (had-all F L (sumIn tags) (sumIn s) tagged made i l u);
+  rest = W .rest;
+}
   where
     row : (i : ℕ) → 1 ≤ i → i ≤ F .rows → sumIn s i ≡ (if eqb (F .tagOfRow i) 0 then sumOf (sumIn s) (F .made i) else sumIn tags (F .tagOfRow i))
     row i l u = W .rows i l (omega arith)

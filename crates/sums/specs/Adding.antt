@@ -13,10 +13,15 @@ use Rattle.incidence.specs.Sum.{sumOf}
 unfoldable pub sumIn : List ℕ → ℕ → List ℕ
 sumIn s i = slot s (i - 1)
 
--- `after` is `before` with a value added to those of its first n sums that p picks
-pub record Added (p : ℕ → Bool) (n : ℕ) (value before after : List ℕ) : Type 0 where
+-- `after` is `before` with its first n sums those that `sum` gives; what is behind them stays
+pub record Holds (n : ℕ) (sum : ℕ → List ℕ) (before after : List ℕ) : Type 0 where
   pub size : length after ≡ length before
-  pub sums : (i : ℕ) → 1 ≤ i → i ≤ n → sumIn after i ≡ (if p i then sumIn before i ⊕ value else sumIn before i)
+  pub sums : (i : ℕ) → 1 ≤ i → i ≤ n → sumIn after i ≡ sum i
+  pub rest : drop (16 * n) after ≡ drop (16 * n) before
+
+-- `after` is `before` with a value added to those of its first n sums that p picks; what is behind them stays
+abbrev pub Added : (ℕ → Bool) → ℕ → List ℕ → List ℕ → List ℕ → Type 0
+Added p n value before after = Holds n (λ i. if p i then sumIn before i ⊕ value else sumIn before i) before after
 
 -- an array with a value added to sum t; as it was where t is 0
 unfoldable pub addedAt : List ℕ → ℕ → List ℕ → List ℕ

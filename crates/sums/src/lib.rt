@@ -7,7 +7,7 @@ ghost use Rattle.incidence.specs.Sum.{sumOf, had};
 ghost use lib.ListN.{length};
 ghost use Rattle.incidence.specs.Family.{Family};
 ghost use Rattle.sizes.specs.Sizes.{known, familyOf};
-ghost use Rattle.sums.specs.Adding.{sumIn, Added, addedAt, rowFrom};
+ghost use Rattle.sums.specs.Adding.{sumIn, Holds, Added, addedAt, rowFrom};
 
 // Adds a value to sum t; 0 stands for none.
 fn add_to_sum(sums: &mut [u8], t: usize, value: [u8; 16])
@@ -80,12 +80,12 @@ fn row_from(code: u64, tags: &[u8], sums: &[u8], i: usize) -> [u8; 16]
     block::block_at(tags, 16 * (t - 1))
 }
 
-// Fills the front of sums with the sums of all rows, had from those of the tags (document 01: "had back from its tag or, for a row without
+// Fills the front of sums with the sums of all rows, had from those of the tags; what is behind them stays (document 01: "had back from its tag or, for a row without
 // one, by its pattern").
 pub fn fill_rows(code: u64, tags: &[u8], sums: &mut [u8])
     requires { ⌜ known code ≡ true ⌝ }
     requires { ⌜ (16 * familyOf code .tags ≤ length (now tags)) × (16 * familyOf code .rows ≤ length (now sums)) ⌝ }
-    ensures { λ _. ⌜ ((i : ℕ) → 1 ≤ i → i ≤ familyOf code .rows → sumIn (now (sums .exit)) i ≡ had (familyOf code) (sumIn (now (tags .entry))) i) ⌝ }
+    ensures { λ _. ⌜ Holds (familyOf code .rows) (had (familyOf code) (sumIn (now (tags .entry)))) (now (sums .entry)) (now (sums .exit)) ⌝ }
 {
     let n = sizes::rows(code);
     let mut k = 0;

@@ -2,14 +2,17 @@
 use Prim.Native.Nat.{_-_, _/_, _≤_}
 use mathlib.Core.Path.{_≡_}
 use lib.ListN.{length}
+use native.Mathlib.Omega.{arith}
 use borrow.Author.Needs.{needs}
 use Rattle.cipher.specs.Aes.{cipher}
-use Rattle.bench.proofs.Laws.{Front, front-first, front-next, front-done}
+use Rattle.cipher.specs.Block.{slot}
+use Rattle.cipher.proofs.Slots.{Front, front-first}
+use Rattle.bench.proofs.Laws.{blocks-next, blocks-done}
 use Rattle.bench.proofs.encipher_blocks.Statement.{statement}
 use Rattle.bench.proofs.encipher_blocks.Tie as tie
 
 abbrev Inv-loop : tie.InvT-loop
-Inv-loop w input out₀ count n₀ out n = (count ≡ length input / 16) × Front (cipher w) input out₀ n out
+Inv-loop w input out₀ count n₀ out n = (count ≡ length input / 16) × (n ≤ count) × Front (λ k. cipher w (slot input k)) out₀ n out
 
 abbrev μ-loop : tie.MeasureT-loop
 μ-loop w input out₀ count n₀ out n = count - n
@@ -39,13 +42,25 @@ loop-less : tie.Need-loop-less Inv-loop μ-loop
 loop-less c = search needs
 
 loop-again : tie.Need-loop-again Inv-loop μ-loop
-loop-again c = search (needs, front-next)
+loop-again c =
+    let b = c .before .before .before .before .before in
+    let l = b .before .before in
+    let d = l .before .before .before in
+    let i = l .loop .inv in
+    let h : length (c .before .before .before .encipher-with .result) ≡ 16 = search needs in
+    (i .0, omega arith,
+    blocks-next (cipher (d .args .w)) (d .args .input .now) _ (l .loop .n) (l .loop .out) (b .block-at .result) (c .before .before .before .encipher-with .result) _ (i .2)
+    (omega (arith, i .0)) (d .pre) (b .block-at .ensures) (c .before .before .before .encipher-with .ensures) h (c .before .before .put-at .ensures))
 
 same-length : tie.Need-same-length Inv-loop μ-loop
 same-length c = search needs
 
 returns : tie.Need-returns Inv-loop μ-loop
-returns c = search (needs, front-done)
+returns c =
+    let l = c .before in
+    let d = l .before .before .before in
+    let i = l .loop .inv in
+    blocks-done (cipher (d .args .w)) (d .args .input .now) _ (l .loop .n) (l .loop .out) (i .2) (omega (arith, i .0, i .1))
 
 pub encipher-blocks-spec : {M : Type 1} → statement M
 encipher-blocks-spec = tie.close (tie.spec Inv-loop μ-loop loop-holds mul-block-at block-at-requires mul-put-at encipher-with-requires put-at-requires add-n loop-less loop-again same-length returns)

@@ -10,7 +10,7 @@ use Rattle.cipher.specs.Double.{double}
 use Rattle.cipher.specs.Aes.{keyExpansion}
 use Rattle.cipher.proofs.Slots.{written-length}
 use Rattle.keyed.specs.Keyed.{mask, tagOf, tagsOf}
-use Rattle.keyed.proofs.KeyedLaws.{Front, front-first, front-next, front-done}
+use Rattle.cipher.proofs.Slots.{Front, front-first, front-next, front-done}
 use borrow.Author.Needs.{needs}
 use Rattle.keyed.proofs.write_tags.Statement.{statement}
 use Rattle.keyed.proofs.write_tags.Tie as tie
