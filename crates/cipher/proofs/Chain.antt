@@ -2,18 +2,17 @@
 use mathlib.Core.Path.{_≡_, refl, sym, ap, ap₂, _∙_}
 use mathlib.Core.Bool.{Bool, true, false}
 use mathlib.Core.List.{List, [], _∷_, _++_}
-use Prim.Native.Nat.{ℕ, zero, suc, _+_, _-_, _*_, _/_, _%_, _≤_, _<_, max}
+use Prim.Native.Nat.{ℕ, zero, suc, _+_, _-_, _*_, _/_, _%_, _≤_, _<_}
 use native.Mathlib.Omega.{arith}
 use native.Mathlib.Numerals.{add-one}
 use lib.Dec.{eqb}
-use lib.ListN.{length, getD, take, drop, replicate, length-append, length-drop, length-take, length-replicate, getD-replicate, List·getD-append}
+use lib.ListN.{length, getD, take, drop, length-append, length-drop, length-take, length-replicate, getD-replicate, List·getD-append}
 use lib.Seq.{getD-append-seam, getD-append-add, append-snoc, take-at, take-all, ext-getD, getD-drop, drop-append-add, drop-append-le, take-append-le}
 use lib.Arith.{lt-of-le-ne}
 use borrow.Author.Tests.{eq-eqb, ne-eqb, eqb-true, eqb-false}
 use Rattle.cipher.specs.Block.{if_then_else_, Bytes, Block, _⊕_, zeros}
-use Rattle.cipher.specs.Double.{double}
 use Rattle.cipher.specs.Cmac.{subkey1, subkey2, blockCount, padded, lastBlock, chain, macBy}
-use Rattle.cipher.proofs.Xor.{⊕-block, ⊕-length, zeros-block, zeros-bytes, take-bytes, drop-bytes, append-bytes}
+use Rattle.cipher.proofs.Xor.{⊕-block, zeros-block, zeros-bytes, take-bytes, drop-bytes, append-bytes}
 use Rattle.cipher.proofs.Doubling.{double-block}
 
 -- ---- two parts

@@ -1,6 +1,6 @@
 -- What a crate above may use of the ciphers: sizes and byte ranges, and that deciphering undoes enciphering and the reverse.
 -- It needs nothing of what AES is. The laws of XOR and of numbers that it shares are in Xor, Numbers and Doubling.
-use mathlib.Core.Path.{_≡_, refl, sym, ap, _∙_}
+use mathlib.Core.Path.{_≡_, ap}
 use mathlib.Core.List.{List}
 use Prim.Native.Nat.{ℕ}
 use native.Mathlib.Omega.{arith}

@@ -1,11 +1,11 @@
 -- One law for every loop that writes an array from the front: where it is to become t, after i turns the array l is `part i t l`.
 -- A loop's invariant is that equation; a turn is `part-turn`, what is not yet written is `part-read`, and the end is `part-done`.
-use mathlib.Core.Path.{_≡_, refl, sym, ap, ap₂, _∙_, subst}
+use mathlib.Core.Path.{_≡_, refl, sym, ap, _∙_}
 use mathlib.Core.List.{List, [], _∷_, _++_, map, append-nil}
 use Prim.Native.Nat.{ℕ, zero, suc, _+_, _-_, _≤_, _<_, zero-le}
-use native.Mathlib.Nat.{not-suc-le-zero, le-of-suc-le-suc, le-refl, le-of-eq}
+use native.Mathlib.Nat.{not-suc-le-zero, le-of-suc-le-suc}
 use native.Mathlib.Numerals.{add-one}
-use lib.ListN.{length, getD, set, take, drop, drop-of-length-le, length-append, length-take, length-drop, take-append-drop, List·getD-append}
+use lib.ListN.{length, getD, set, take, drop, drop-of-length-le, length-append, length-take, length-drop}
 use borrow.Rule.Slice.PartMut.{putMid}
 use lib.Seq.{drop-nil, take-all, drop-drop, drop-length}
 use native.Mathlib.Omega.{arith}

@@ -1,6 +1,5 @@
 -- Big-endian numbers and their bytes: each gives the other back; lengths and byte ranges; XOR byte by byte.
 use mathlib.Core.Path.{_≡_, refl, sym, ap, ap₂, _∙_, subst}
-use mathlib.Core.Logic.{_↔_}
 use mathlib.Core.List.{List, [], _∷_, _++_}
 use Prim.Native.Nat.{ℕ, zero, suc, _+_, _*_, _/_, _%_, _^_, _≤_, _<_}
 use native.Mathlib.Nat.{mod-lt, zero-lt-suc, pow-suc, mul-assoc, mul-comm, div-lt-iff-lt-mul, div-div-eq-div-mul, mod-eq-of-lt}

@@ -1,14 +1,13 @@
 -- The key schedule: its length, its bytes and its round keys, and what the code's loop keeps of it.
-use mathlib.Core.Path.{_≡_, refl, sym, ap, ap₂, _∙_, subst}
+use mathlib.Core.Path.{_≡_, refl, sym, ap, ap₂, _∙_}
 use mathlib.Core.Bool.{Bool, true, false}
-use mathlib.Core.List.{List, [], _∷_, _++_, map, append-assoc, append-nil}
-use Prim.Native.Nat.{ℕ, zero, suc, _+_, _-_, _*_, _/_, _%_, _≤_, _<_, min}
-use native.Mathlib.Nat.{zero-lt-suc, add-zero, mul-comm}
+use mathlib.Core.List.{List, [], _∷_, _++_, map}
+use Prim.Native.Nat.{ℕ, zero, suc, _+_, _-_, _*_, _/_, _%_, _≤_, _<_}
+use native.Mathlib.Nat.{zero-lt-suc, add-zero}
 use native.Mathlib.Omega.{arith}
-use native.Mathlib.Numerals.{add-one}
 use lib.Dec.{eqb}
-use lib.ListN.{length, getD, set, take, drop, length-append, length-take, length-drop, length-map, take-append-drop}
-use lib.Seq.{take-append-le, drop-append-le, take-at, take-all, take-add, drop-drop, getD-take, getD-drop, sets, sets-eq}
+use lib.ListN.{length, getD, set, take, drop, length-append, length-take, length-drop, take-append-drop}
+use lib.Seq.{take-append-le, drop-append-le, take-at, take-all, take-add, drop-drop, getD-take, getD-drop, sets-eq}
 use lib.Bits.{bitXor, xor-zero-r}
 use Rattle.cipher.specs.Block.{if_then_else_, Bytes, Block, _⊕_}
 use Rattle.cipher.specs.Field.{power, powerBy, _•_}

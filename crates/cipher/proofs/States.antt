@@ -3,7 +3,6 @@ use mathlib.Core.Path.{_≡_, refl, sym, ap, ap₂, _∙_}
 use mathlib.Core.List.{List, [], _∷_, map}
 use Prim.Native.Nat.{ℕ, zero, suc, _+_, _-_, _*_, _/_, _%_, _<_}
 use native.Mathlib.Nat.{not-suc-le-zero, le-of-suc-le-suc}
-use native.Mathlib.Omega.{arith}
 use lib.ListN.{length, getD, length-map}
 use Rattle.cipher.specs.Block.{Bytes, Block, tabulate}
 use Rattle.cipher.specs.Aes.{cell, state, sbox, invSbox, subBytes, invSubBytes, shiftRows, invShiftRows, columnwise, mixed, invMixed, mixColumns, invMixColumns}

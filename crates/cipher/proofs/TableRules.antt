@@ -2,19 +2,17 @@
 use mathlib.Core.Path.{_≡_, refl, sym, ap, _∙_, subst}
 use mathlib.Core.Bool.{Bool, true, false}
 use mathlib.Core.List.{List, [], _∷_}
-use Prim.Native.Nat.{ℕ, zero, suc, _-_, _≤_, _<_, _+_, _*_, _/_, _%_, _^_}
+use Prim.Native.Nat.{ℕ, zero, suc, _-_, _≤_, _<_, _+_}
 use native.Mathlib.Nat.{not-suc-le-zero, le-of-suc-le-suc}
 use native.Mathlib.Omega.{arith}
 use lib.Arith.{lt-of-le-ne}
 use lib.Dec.{T, eqb, eqb→eq, ltb, ltb→lt}
-use lib.ListN.{length, getD}
-use lib.Bits.{bitXor}
+use lib.ListN.{getD}
 use Rattle.cipher.specs.Block.{Tabulates}
 use Rattle.cipher.specs.Field.{xtimes, productBy, _•_, powerBy, power, inverse}
 use Rattle.cipher.specs.Aes.{bit, byteOf, affine, sbox, preimage, invSbox}
 use borrow.Author.Tests.{eqb-true, eqb-false}
-use Rattle.cipher.specs.Block.{if_then_else_}
-use Rattle.cipher.proofs.Table.{at, every, both, both-left, both-right, below, allBelow}
+use Rattle.cipher.proofs.Table.{at, both, both-left, both-right, below}
 
 unfoldable pub sboxTable : List ℕ
 sboxTable =

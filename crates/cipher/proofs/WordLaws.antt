@@ -1,19 +1,19 @@
 -- Words of four bytes: XOR, doubling in the field, turning and mixing go byte by byte; four words are a state.
-use mathlib.Core.Path.{_≡_, refl, sym, ap, ap₂, _∙_, subst}
+use mathlib.Core.Path.{_≡_, sym, ap, ap₂, _∙_, subst}
 use mathlib.Core.List.{List, [], _∷_, _++_, map}
 use native.Mathlib.Nat.{div-div-eq-div-mul, div-lt-iff-lt-mul, mod-add-div', mod-eq-of-lt}
 use lib.Pow.{pow-pos}
 use Prim.Native.Nat.{ℕ, _+_, _*_, _/_, _%_, _^_, _≤_, _<_}
 use native.Mathlib.Omega.{arith}
-use lib.ListN.{length, getD, take, drop}
-use lib.Bits.{bitXor, bitAnd, xor-shr, xor-mod, and-shr, and-mod, and-mask, and-high, and-le-r, xor-comm}
+use lib.ListN.{length, getD}
+use lib.Bits.{bitXor, bitAnd, xor-shr, xor-mod, and-shr, and-mod, and-mask, and-high, and-le-r}
 use Rattle.cipher.specs.Block.{_⊕_}
 use Rattle.cipher.specs.Field.{xtimes}
 use Rattle.cipher.specs.Aes.{rotWord, mixed, invMixed, shiftRows, invShiftRows, columnwise, word, roundKey}
 use Rattle.cipher.specs.Words.{bytesOf, stateOf, column}
 use Rattle.cipher.proofs.Mixing.{mixed-words, invMixed-words}
 use Rattle.cipher.proofs.Schedules.{word-is, roundKey-words}
-use Rattle.cipher.proofs.Xor.{sums, mod2-lt}
+use Rattle.cipher.proofs.Xor.{mod2-lt}
 use lib.Dec.{lit<}
 
 -- the word of four bytes

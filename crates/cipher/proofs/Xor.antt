@@ -8,7 +8,7 @@ use native.Mathlib.Omega.{arith}
 use native.Mathlib.Numerals.{add-one}
 use lib.Arith.{bin-ind, digits-mod}
 use lib.Dec.{eqb}
-use lib.ListN.{length, getD, take, drop, replicate, drop-of-length-le}
+use lib.ListN.{length, getD, take, drop, drop-of-length-le}
 use lib.Seq.{drop-cons}
 use lib.Bits.{bitXor, differ, xor-step, xor-shr, xor-comm, xor-self, xor-zero-r, xor-lt}
 use borrow.Author.Tests.{eqb-true, eq-eqb, ne-eqb}

@@ -1,5 +1,5 @@
 -- SP 800-38B, section 6: CMAC with AES-128 (also RFC 4493). Document 01: card codes and seals. Assumes nothing.
-use mathlib.Core.List.{List, [], _∷_, _++_}
+use mathlib.Core.List.{List, _∷_, _++_}
 use Prim.Native.Nat.{ℕ, zero, suc, _+_, _-_, _*_, _/_, max}
 use lib.Dec.{eqb}
 use lib.ListN.{length, take, drop}

@@ -1,25 +1,23 @@
 -- Demand 2: a tag file is accepted under a seal key exactly when its bytes are what the writer lays out and seals for some size code, count
 -- and tags.
-use mathlib.Core.Path.{_≡_, refl, sym, ap, ap₂, _∙_, subst}
-use mathlib.Core.Bool.{Bool, true, false, _&&_}
-use mathlib.Core.List.{List, [], _∷_, _++_, append-assoc}
-use Prim.Native.Nat.{ℕ, zero, suc, _+_, _-_, _*_, _≤_, _<_}
+use mathlib.Core.Path.{_≡_, refl, sym, ap, ap₂, _∙_}
+use mathlib.Core.Bool.{true, _&&_}
+use mathlib.Core.List.{List, [], _∷_, _++_}
+use Prim.Native.Nat.{ℕ, zero, suc, _+_, _-_, _*_, _≤_}
 use native.Mathlib.Omega.{arith}
 use lib.Dec.{eqb, leb}
 use lib.ListN.{length, getD, take, drop, length-append, length-take, length-drop, take-append-drop}
-use lib.Seq.{take-add, drop-cons, take-take, take-at, drop-at, take-nil, drop-nil, take-append-le, drop-append-le}
+use lib.Seq.{take-add, drop-cons, take-take, take-at, drop-at, take-nil}
 use borrow.Author.Tests.{leb-true, le-leb, eqb-true, eq-eqb}
 use Rattle.cipher.specs.Block.{Bytes, same}
 use Rattle.cipher.specs.Number.{number, bigEndian}
 use Rattle.cipher.specs.Cmac.{cmac}
 use Rattle.cipher.proofs.Xor.{same-true, same-eq, take-bytes, drop-bytes}
-use Rattle.cipher.proofs.Numbers.{bigEndian-number, number-bigEndian, bigEndian-length}
+use Rattle.cipher.proofs.Numbers.{bigEndian-number, number-bigEndian}
 use Rattle.cipher.proofs.Laws.{cmac-length}
-use Rattle.incidence.specs.Family.{Family}
 use Rattle.sizes.specs.Sizes.{known, familyOf}
 use Rattle.sizes.proofs.Laws.{items-few}
-use Rattle.files.specs.declared.Refusal.{Refusal}
-use Rattle.files.specs.Refusals.{none, unless}
+use Rattle.files.specs.Refusals.{none}
 use Rattle.files.specs.Message.{number16}
 use Rattle.files.specs.TagFile.{tagPrefix, header, body, sealed, fileSize, codeOf, countOf, tagsIn, bodyOf, macOf, countFits, refuse6, refuse20, Written}
 use Rattle.files.proofs.Passing.{unless-true, unless-passes, and-left, and-right, and-true}

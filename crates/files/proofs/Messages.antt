@@ -1,5 +1,5 @@
 -- The message file: what each check of the code settles, and where the items of a file that is not refused lie.
-use mathlib.Core.Path.{_≡_, refl, sym, ap, ap₂, _∙_, subst}
+use mathlib.Core.Path.{_≡_, refl, sym, ap, ap₂, _∙_}
 use mathlib.Core.Bool.{Bool, true, false, _&&_}
 use mathlib.Core.Logic.{_⊎_, inl, inr}
 use mathlib.Core.List.{List, [], _∷_}
@@ -8,15 +8,15 @@ use native.Mathlib.Nat.{not-suc-le-zero, le-of-suc-le-suc, eq-or-lt-of-le}
 use native.Mathlib.Numerals.{add-one}
 use native.Mathlib.Omega.{arith}
 use lib.Dec.{eqb, leb}
-use lib.ListN.{length, getD, take, drop, length-take, length-drop}
+use lib.ListN.{length, getD, take, drop}
 use lib.Seq.{drop-cons}
 use denote.Ref.{RefT, now, ptr}
 use borrow.Author.Tests.{leb-true, le-leb, lt-leb, eqb-true, eq-eqb, ne-eqb}
-use Rattle.cipher.specs.Block.{if_then_else_, same}
+use Rattle.cipher.specs.Block.{same}
 use Rattle.cipher.specs.Number.{number}
 use Rattle.cipher.proofs.Xor.{same-true, same-eq}
 use Rattle.files.specs.declared.Refusal.{Refusal}
-use Rattle.files.specs.Refusals.{refusal, none, unless, passes, first}
+use Rattle.files.specs.Refusals.{refusal, none, unless, first}
 use Rattle.files.specs.Message.{number16, prefix, count, behind, start, size, refuse3, fits, refuseItems, refuse5, refuse8, fetchRefusal, fetchStart, fetchSize, PartOf}
 use Rattle.files.proofs.Passing.{first-here, first-later, rest-passes, unless-true, unless-false, unless-passes, and-left, and-right, and-true, and-false-l, and-false-r, Plain, plain-unless, plain-first}
 

@@ -1,22 +1,20 @@
 -- The tag file: what each check of the code settles, and that what is accepted is what the writer lays out and seals.
-use mathlib.Core.Path.{_≡_, refl, sym, ap, ap₂, _∙_, subst}
+use mathlib.Core.Path.{_≡_, sym, ap, ap₂, _∙_}
 use mathlib.Core.Bool.{Bool, true, false, _&&_}
-use mathlib.Core.List.{List, [], _∷_, _++_}
-use Prim.Native.Nat.{ℕ, zero, suc, _+_, _-_, _*_, _≤_, _<_}
+use mathlib.Core.List.{List}
+use Prim.Native.Nat.{ℕ, _+_, _-_, _*_, _≤_, _<_}
 use native.Mathlib.Omega.{arith}
 use lib.Dec.{eqb, leb}
-use lib.ListN.{length, getD, take, drop, length-drop}
+use lib.ListN.{length, take, drop, length-drop}
 use lib.Seq.{take-all}
-use borrow.Author.Tests.{leb-true, le-leb, lt-leb, eqb-true, eq-eqb, ne-eqb}
-use Rattle.cipher.specs.Block.{if_then_else_, same}
+use borrow.Author.Tests.{le-leb, lt-leb, eq-eqb, ne-eqb}
+use Rattle.cipher.specs.Block.{same}
 use Rattle.cipher.specs.Cmac.{cmac}
-use Rattle.cipher.proofs.Xor.{same-true, same-eq}
-use Rattle.incidence.specs.Family.{Family}
+use Rattle.cipher.proofs.Xor.{same-eq}
 use Rattle.sizes.specs.Sizes.{known, familyOf}
-use Rattle.files.specs.declared.Refusal.{Refusal}
-use Rattle.files.specs.Refusals.{refusal, none, unless}
+use Rattle.files.specs.Refusals.{refusal, none}
 use Rattle.files.specs.TagFile.{tagPrefix, codeOf, countOf, countFits, fileSize, macOf, bodyOf, refuse6, refuse20}
-use Rattle.files.proofs.Passing.{unless-true, unless-false, unless-passes, and-left, and-right, and-true, and-false-l, and-false-r}
+use Rattle.files.proofs.Passing.{unless-true, unless-false, and-true, and-false-l, and-false-r}
 use Rattle.files.proofs.Messages.{different}
 
 -- ---- size code and count

@@ -10,7 +10,7 @@ use denote.Ref.{RefT, now, ptr}
 use Rattle.cipher.specs.Block.{if_then_else_, same}
 use Rattle.cipher.specs.Number.{number}
 use Rattle.files.specs.declared.Refusal.{Refusal}
-use Rattle.files.specs.Refusals.{refusal, none, unless, passes, first}
+use Rattle.files.specs.Refusals.{none, unless, passes, first}
 
 -- the 2-byte number at a place
 unfoldable pub number16 : List ℕ → ℕ → ℕ

@@ -4,9 +4,8 @@ use mathlib.Core.List.{List, _++_}
 use Prim.Native.Nat.{ℕ, zero, suc}
 use Rattle.cipher.specs.Block.{Bytes, Block, _⊕_, zeros}
 use Rattle.cipher.specs.Number.{bigEndian}
-use Rattle.cipher.specs.Double.{double}
 use Rattle.cipher.specs.Aes.{keyExpansion, cipher, invCipher, encipher, decipher}
-use Rattle.cipher.specs.Cmac.{subkey1, subkey2, macBy, cmac}
+use Rattle.cipher.specs.Cmac.{subkey1, subkey2, macBy}
 use Rattle.cipher.proofs.Xor.{⊕-block, ⊕-comm, block-cancel, zeros-block, append-bytes}
 use Rattle.cipher.proofs.Numbers.{bigEndian-bytes}
 use Rattle.cipher.proofs.Doubling.{double-block}

@@ -80,8 +80,8 @@ fn row_from(code: u64, tags: &[u8], sums: &[u8], i: usize) -> [u8; 16]
     block::block_at(tags, 16 * (t - 1))
 }
 
-// Fills the front of sums with the sums of all rows, had from those of the tags; what is behind them stays (document 01: "had back from its tag or, for a row without
-// one, by its pattern").
+// Fills the front of sums with the sums of all rows, had from those of the tags; what is behind them stays. Document 01: "had back from
+// its tag or, for a row without one, by its pattern".
 pub fn fill_rows(code: u64, tags: &[u8], sums: &mut [u8])
     requires { ⌜ known code ≡ true ⌝ }
     requires { ⌜ (16 * familyOf code .tags ≤ length (now tags)) × (16 * familyOf code .rows ≤ length (now sums)) ⌝ }

@@ -47,10 +47,12 @@ loop-again c =
     let l = b .before .before in
     let d = l .before .before .before in
     let i = l .loop .inv in
-    let h : length (c .before .before .before .encipher-with .result) ≡ 16 = search needs in
-    (i .0, omega arith,
-    blocks-next (cipher (d .args .w)) (d .args .input .now) _ (l .loop .n) (l .loop .out) (b .block-at .result) (c .before .before .before .encipher-with .result) _ (i .2)
-    (omega (arith, i .0)) (d .pre) (b .block-at .ensures) (c .before .before .before .encipher-with .ensures) h (c .before .before .put-at .ensures))
+    let h : length (c .before .before .before .encipher-with .result) ≡ 16 = search needs in (
+      i .0,
+      omega arith,
+      blocks-next (cipher (d .args .w)) (d .args .input .now) _ (l .loop .n) (l .loop .out) (b .block-at .result) (c .before .before .before .encipher-with .result) _ (i .2)
+          (omega (arith, i .0)) (d .pre) (b .block-at .ensures) (c .before .before .before .encipher-with .ensures) h (c .before .before .put-at .ensures),
+    )
 
 same-length : tie.Need-same-length Inv-loop μ-loop
 same-length c = search needs

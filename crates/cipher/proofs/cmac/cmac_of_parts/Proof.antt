@@ -1,7 +1,6 @@
 -- The key made ready gives what the key gives (Laws).
 use mathlib.Core.Path.{_∙_}
 use mathlib.Core.List.{_++_}
-use Prim.Native.Nat.{_+_}
 use Rattle.cipher.proofs.Laws.{mac-is}
 use borrow.Author.Needs.{needs}
 use Rattle.cipher.proofs.cmac.cmac_of_parts.Statement.{statement}

@@ -1,7 +1,6 @@
 -- Four words, each of its four bytes.
 use mathlib.Core.Path.{_≡_, _∙_}
 use mathlib.Core.List.{_++_}
-use Prim.Native.Nat.{_+_}
 use lib.ListN.{length}
 use Rattle.cipher.specs.Words.{stateOf}
 use Rattle.cipher.proofs.States.{elements-of}

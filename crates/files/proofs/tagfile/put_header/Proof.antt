@@ -1,7 +1,6 @@
 -- Eight stores, the count as to_be16 gives it.
 use mathlib.Core.Path.{_∙_}
 use mathlib.Core.List.{[], _∷_, _++_}
-use Prim.Native.Nat.{_+_}
 use native.Mathlib.Omega.{arith}
 use lib.ListN.{getD, drop}
 use Rattle.files.specs.TagFile.{header, tagPrefix}
