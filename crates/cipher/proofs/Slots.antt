@@ -1,7 +1,9 @@
 -- Blocks one after another in a list: writing one leaves the others, and a walk writes them all.
 use mathlib.Core.Path.{_≡_, refl, sym, ap, ap₂, _∙_}
 use mathlib.Core.List.{List, _++_, append-assoc}
-use Prim.Native.Nat.{ℕ, _+_, _-_, _*_, _≤_, _<_}
+use mathlib.Core.Logic.{_⊎_, inl, inr}
+use Prim.Native.Nat.{ℕ, zero, suc, _+_, _-_, _*_, _≤_, _<_}
+use native.Mathlib.Nat.{le-of-suc-le-suc, eq-or-lt-of-le}
 use native.Mathlib.Omega.{arith}
 use native.Mathlib.Numerals.{add-one}
 use lib.ListN.{length, take, drop, length-append, length-take, length-drop, take-append-drop}
@@ -24,6 +26,10 @@ unfolding slot
 slot-behind a b k n h =
     let e : 16 * (n + k) ≡ length a + 16 * k = omega arith in
     ap (λ (m : ℕ). take 16 (drop m (a ++ b))) e ∙ ap (take 16) (drop-append-add a b (16 * k))
+
+pub slot-first : (a b : List ℕ) → length a ≡ 16 → slot (a ++ b) 0 ≡ a
+unfolding slot
+slot-first a b h = take-at a b 16 h
 
 -- block k is written, and all else stays
 abbrev pub written : List ℕ → ℕ → List ℕ → List ℕ
@@ -94,3 +100,36 @@ front-next f o k out r out′ F h e l g =
 
 pub front-done : (f : ℕ → List ℕ) (o : List ℕ) (k n : ℕ) (out : List ℕ) → Front f o k out → k ≡ n → out ≡ listOf f n ++ drop (16 * n) o
 front-done f o k n out F e = F .so ∙ ap (λ (m : ℕ). listOf f m ++ drop (16 * m) o) e
+
+-- ---- lists of blocks
+
+pub listOf-length : (f : ℕ → List ℕ) (n : ℕ) → ((k : ℕ) → k < n → length (f k) ≡ 16) → length (listOf f n) ≡ 16 * n
+unfolding listOf
+listOf-length f zero h = refl
+listOf-length f (suc n) h =
+    let r = listOf-length f n (λ k l. h k (omega arith)) in
+    let e = h n (omega arith) in
+    length-append (listOf f n) (f n) ∙ omega arith
+
+pub listOf-ext : (f g : ℕ → List ℕ) (n : ℕ) → ((k : ℕ) → k < n → f k ≡ g k) → listOf f n ≡ listOf g n
+unfolding listOf
+listOf-ext f g zero h = refl
+listOf-ext f g (suc n) h = ap₂ _++_ (listOf-ext f g n (λ k l. h k (omega arith))) (h n (omega arith))
+
+-- block k of a list of blocks is the one that was put there
+pub slot-listOf : (f : ℕ → List ℕ) (n : ℕ) (rest : List ℕ) → ((k : ℕ) → k < n → length (f k) ≡ 16) → (k : ℕ) → k < n
+    → slot (listOf f n ++ rest) k ≡ f k
+unfolding listOf
+slot-listOf f zero rest h k l = absurd (omega arith)
+slot-listOf f (suc n) rest h k l = go (eq-or-lt-of-le (le-of-suc-le-suc l)) (slot-listOf f n (f n ++ rest) (λ m c. h m (omega arith)) k)
+  where
+    whole : length (listOf f n) ≡ 16 * n
+    whole = listOf-length f n (λ m b. h m (omega arith))
+
+    go : (k ≡ n) ⊎ (k < n) → (k < n → slot (listOf f n ++ (f n ++ rest)) k ≡ f k) → slot ((listOf f n ++ f n) ++ rest) k ≡ f k
+    go (inl e) earlier =
+        let z : n + 0 ≡ k = omega arith in
+        ap (λ (x : List ℕ). slot x k) (append-assoc (listOf f n) (f n) rest)
+        ∙ ap (slot (listOf f n ++ (f n ++ rest))) (sym z)
+        ∙ slot-behind (listOf f n) (f n ++ rest) 0 n whole ∙ slot-first (f n) rest (h n (omega arith)) ∙ ap f (sym e)
+    go (inr b) earlier = ap (λ (x : List ℕ). slot x k) (append-assoc (listOf f n) (f n) rest) ∙ earlier b

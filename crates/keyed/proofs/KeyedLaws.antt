@@ -2,14 +2,16 @@
 use mathlib.Core.Path.{_≡_, ap, ap₂, _∙_}
 use mathlib.Core.List.{List, _++_}
 use Prim.Native.Nat.{ℕ, zero, suc}
+use native.Mathlib.Omega.{arith}
+use lib.ListN.{length}
 use Rattle.cipher.specs.Block.{Bytes, Block, _⊕_, zeros}
 use Rattle.cipher.specs.Number.{bigEndian}
 use Rattle.cipher.specs.Aes.{keyExpansion, cipher, invCipher, encipher, decipher}
 use Rattle.cipher.specs.Cmac.{subkey1, subkey2, macBy}
-use Rattle.cipher.proofs.Xor.{⊕-block, ⊕-comm, block-cancel, zeros-block, append-bytes}
+use Rattle.cipher.proofs.Xor.{⊕-length, ⊕-block, ⊕-comm, block-cancel, zeros-block, append-bytes}
 use Rattle.cipher.proofs.Numbers.{bigEndian-bytes}
 use Rattle.cipher.proofs.Doubling.{double-block}
-use Rattle.cipher.proofs.Laws.{encipher-block, decipher-block, decipher-encipher, encipher-decipher, cmac-block, encipher-is, decipher-is, mac-is}
+use Rattle.cipher.proofs.Laws.{encipher-block, decipher-block, encipher-length, decipher-length, decipher-encipher, encipher-decipher, cmac-block, encipher-is, decipher-is, mac-is}
 use Rattle.keyed.specs.Keyed.{itemHash, mask, tagOf, sumOfTag}
 
 -- ---- blocks
@@ -56,6 +58,26 @@ module _ (key : List ℕ) (hk : Block key) where
       ap (λ (t : List ℕ). mask key i ⊕ encipher key t) (twice i (decipher key (mask key i ⊕ tag)) (decipher-block key hk _ b))
       ∙ ap (λ (t : List ℕ). mask key i ⊕ t) (encipher-decipher key hk (mask key i ⊕ tag) b)
       ∙ twice i tag h
+
+-- 16 bytes, whatever the sum or tag
+module _ (key : List ℕ) (hk : length key ≡ 16) (i : ℕ) where
+  mask-length : length (mask key (suc i)) ≡ 16
+  unfolding mask
+  mask-length = double-block (mask key i) .long
+
+  pub tagOf-length : (sum : List ℕ) → length (tagOf key (suc i) sum) ≡ 16
+  unfolding tagOf
+  tagOf-length sum =
+      let l = mask-length in
+      let e = encipher-length key hk (mask key (suc i) ⊕ sum) in
+      ⊕-length (mask key (suc i)) (encipher key (mask key (suc i) ⊕ sum)) (omega arith) ∙ l
+
+  pub sumOfTag-length : (tag : List ℕ) → length (sumOfTag key (suc i) tag) ≡ 16
+  unfolding sumOfTag
+  sumOfTag-length tag =
+      let l = mask-length in
+      let e = decipher-length key hk (mask key (suc i) ⊕ tag) in
+      ⊕-length (mask key (suc i)) (decipher key (mask key (suc i) ⊕ tag)) (omega arith) ∙ l
 
 -- ---- as the code computes them
 

@@ -125,9 +125,9 @@ pub items-most : (s : ℕ) → itemsOf s ≤ 273
 unfolding itemsOf itemCounts most
 items-most = getD-most 273 itemCounts refl
 
-pub tags-most : (s : ℕ) → tagsOf s ≤ 273
+pub tags-most : (s : ℕ) → tagsOf s ≤ 82
 unfolding tagsOf tagCounts most
-tags-most = getD-most 273 tagCounts refl
+tags-most = getD-most 82 tagCounts refl
 
 pub limit-most : (s : ℕ) → limitOf s ≤ 273
 unfolding limitOf limits most

@@ -42,7 +42,7 @@ module _ (c : ℕ) (h : known c ≡ true) where
   unfolding familyOf plane
   tags-fit = rules c (code-low c h) (code-high c h) .fits
 
--- at most 273, whatever the code
+-- at most 273, and 82 tags, whatever the code
 pub items-few : (c : ℕ) → familyOf c .items ≤ 273
 unfolding familyOf plane
 items-few = items-most
@@ -51,7 +51,7 @@ pub rows-few : (c : ℕ) → familyOf c .rows ≤ 273
 unfolding familyOf plane
 rows-few = items-most
 
-pub tags-few : (c : ℕ) → familyOf c .tags ≤ 273
+pub tags-few : (c : ℕ) → familyOf c .tags ≤ 82
 unfolding familyOf plane
 tags-few = tags-most
 

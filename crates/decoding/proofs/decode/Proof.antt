@@ -1,0 +1,60 @@
+-- All items are marked, those that an agreeing row holds are cleared, and the rest follows from the marks (Marks).
+use mathlib.Core.Path.{_∙_}
+use Rattle.incidence.specs.Report.{named}
+use Rattle.sizes.specs.Sizes.{familyOf}
+use Rattle.decoding.specs.Decoding.{agreesIn}
+use Rattle.decoding.proofs.Marks.{named-marked, count-is, stray-is, answer-is, marked-list}
+use borrow.Author.Needs.{needs}
+use Rattle.decoding.proofs.decode.Statement.{statement}
+use Rattle.decoding.proofs.decode.Tie as tie
+
+mark-all-requires : tie.Need-mark-all-requires
+mark-all-requires c κs = search needs
+
+clear-agreeing-requires : tie.Need-clear-agreeing-requires
+clear-agreeing-requires c κs = search needs
+
+count-named-requires : tie.Need-count-named-requires
+count-named-requires c κs = search needs
+
+find-unexplained-requires : tie.Need-find-unexplained-requires
+find-unexplained-requires c κs = search needs
+
+limit-requires : tie.Need-limit-requires
+limit-requires c κs = search needs
+
+choose-requires : tie.Need-choose-requires
+choose-requires c κs = search needs
+
+same-length : tie.Need-same-length
+same-length c = search needs
+
+returns : tie.Need-returns
+returns c =
+    let s = c .before .before in
+    let n = s .before .before in
+    let g = n .before .before .before .before in
+    let m = g .before .before .before .before in
+    let d = m .before .before .before .before .before in
+    let F = familyOf (d .args .code) in
+    let agrees = agreesIn (d .args .a .now) (d .args .b .now) in
+    let all = m .mark-all .ensures in
+    let clears = g .clear-agreeing .ensures .0 in
+    let rows = g .clear-agreeing .ensures .1 in
+    let names = n .count-named .ensures ∙ count-is F agrees all clears in
+    let stray = s .find-unexplained .ensures ∙ stray-is F agrees all clears in
+    let written = marked-list (named F agrees) (d .args .n) _ _ (named-marked F agrees all clears) (d .pre .0 .1) in
+    (written, (c .choose .ensures ∙ answer-is F agrees (d .args .n) _ _ _ _ (c .before .limit .ensures) rows names stray, (names, rows)))
+
+pub decode-spec : {M : Type 1} → statement M
+decode-spec =
+    tie.close
+    (tie.spec
+    mark-all-requires
+    clear-agreeing-requires
+    count-named-requires
+    find-unexplained-requires
+    limit-requires
+    choose-requires
+    same-length
+    returns)

@@ -1,0 +1,75 @@
+-- Each turn tests one row (Picking).
+use mathlib.Core.Path.{_≡_, refl, sym, ap, _∙_}
+use mathlib.Core.Bool.{false}
+use Prim.Native.Nat.{_+_, _-_, _≤_}
+use native.Mathlib.Omega.{arith}
+use Rattle.incidence.specs.Count.{any}
+use Rattle.incidence.proofs.Counting.{any-some}
+use Rattle.sizes.specs.Sizes.{familyOf}
+use Rattle.decoding.specs.Decoding.{agreesIn, strays}
+use Rattle.decoding.proofs.Picking.{any-fails}
+use borrow.Author.Needs.{needs}
+use Rattle.decoding.proofs.find_unexplained.Statement.{statement}
+use Rattle.decoding.proofs.find_unexplained.Tie as tie
+
+abbrev Inv-loop : tie.InvT-loop
+Inv-loop code n a b marks rows i₀ i = (i ≤ rows) × (any (strays (familyOf code) (agreesIn a b) marks n) i ≡ false)
+
+abbrev μ-loop : tie.MeasureT-loop
+μ-loop code n a b marks rows i₀ i = rows - i
+
+rows-requires : tie.Need-rows-requires Inv-loop μ-loop
+rows-requires c κs = search needs
+
+loop-holds : tie.Need-loop-holds Inv-loop μ-loop
+loop-holds c = (omega arith, refl)
+
+add-i : tie.Need-add-i Inv-loop μ-loop
+add-i c = search needs
+
+is-stray-requires : tie.Need-is-stray-requires Inv-loop μ-loop
+is-stray-requires c κs =
+    let l = c .before in
+    let d = l .before .before .before .before .before in
+    (d .pre .0, (omega arith, omega (arith, l .before .rows .ensures, d .pre .1 .0), omega (arith, l .before .rows .ensures, d .pre .1 .1)))
+
+returns : tie.Need-returns Inv-loop μ-loop
+returns c =
+    let l = c .before .before .before in
+    let d = l .before .before .before .before .before in
+    sym (any-some (strays (familyOf (d .args .code)) (agreesIn (d .args .a .now) (d .args .b .now)) (d .args .marks .now) (d .args .n)) (familyOf (d .args .code) .rows) (l .loop .i + 1) (omega arith)
+    (omega (arith, l .before .rows .ensures)) (sym (c .before .is-stray .ensures) ∙ c .if1 .taken))
+
+loop-less : tie.Need-loop-less Inv-loop μ-loop
+loop-less c = search needs
+
+loop-again : tie.Need-loop-again Inv-loop μ-loop
+loop-again c =
+    let l = c .before .before .before in
+    let d = l .before .before .before .before .before in (
+      omega arith,
+      any-fails (strays (familyOf (d .args .code)) (agreesIn (d .args .a .now) (d .args .b .now)) (d .args .marks .now) (d .args .n)) (l .loop .i) (l .loop .inv .1)
+          (sym (c .before .is-stray .ensures) ∙ c .if1 .left),
+    )
+
+returns-2 : tie.Need-returns-2 Inv-loop μ-loop
+returns-2 c =
+    let l = c .before in
+    let d = l .before .before .before .before .before in
+    let e : l .loop .i ≡ familyOf (d .args .code) .rows = omega (arith, l .before .rows .ensures) in
+    sym (l .loop .inv .1) ∙ ap (any (strays (familyOf (d .args .code)) (agreesIn (d .args .a .now) (d .args .b .now)) (d .args .marks .now) (d .args .n))) e
+
+pub find-unexplained-spec : {M : Type 1} → statement M
+find-unexplained-spec =
+    tie.close
+    (tie.spec
+    Inv-loop
+    μ-loop
+    rows-requires
+    loop-holds
+    add-i
+    is-stray-requires
+    returns
+    loop-less
+    loop-again
+    returns-2)

@@ -1,0 +1,48 @@
+-- Document 01, Report, over two arrays of row sums: the message's and the tag file's (000, section 3.1: naïve decoding). Assumes nothing.
+use mathlib.Core.Path.{_≡_}
+use mathlib.Core.Bool.{Bool, not, _&&_}
+use mathlib.Core.List.{List, [], _∷_, _++_}
+use Prim.Native.Nat.{ℕ, zero, suc, _-_, _≤_}
+use lib.Dec.{eqb}
+use lib.ListN.{length, getD, drop}
+use Rattle.cipher.specs.Block.{if_then_else_, same}
+use Rattle.incidence.specs.Count.{bit, any}
+use Rattle.incidence.specs.Family.{Family}
+use Rattle.sums.specs.Adding.{sumIn}
+
+-- whether row i "agrees": its "sum from the shelf equals its sum from the sheet"
+unfoldable pub agreesIn : List ℕ → List ℕ → ℕ → Bool
+agreesIn a b i = same (sumIn a i) (sumIn b i)
+
+-- a byte for each of the items 1 to n, 1 for those that pass: "Writes n bytes, 1 named and 0 cleared"
+unfoldable pub marksOf : (ℕ → Bool) → ℕ → List ℕ
+marksOf p zero = []
+marksOf p (suc n) = marksOf p n ++ (bit (p (suc n)) ∷ [])
+
+-- ---- an array of marks on the way
+
+-- item j's mark, 0 once it is cleared
+unfoldable pub markIn : List ℕ → ℕ → ℕ
+markIn marks j = getD marks (j - 1) 0
+
+-- `after` is `before` with the marks of the items 1 to n those that `mark` gives; what is behind them stays
+pub record Marked (n : ℕ) (mark : ℕ → ℕ) (before after : List ℕ) : Type 0 where
+  pub size : length after ≡ length before
+  pub marks : (j : ℕ) → 1 ≤ j → j ≤ n → markIn after j ≡ mark j
+  pub rest : drop n after ≡ drop n before
+
+-- `after` is `before` with those of its first n items cleared that p picks
+abbrev pub Cleared : (ℕ → Bool) → ℕ → List ℕ → List ℕ → Type 0
+Cleared p n before after = Marked n (λ j. if p j then 0 else markIn before j) before after
+
+-- whether item j is marked
+unfoldable pub isMarked : List ℕ → ℕ → Bool
+isMarked marks j = not (eqb (markIn marks j) 0)
+
+-- whether row i holds one of the items 1 to n that is marked
+unfoldable pub holdsMarked : Family → List ℕ → ℕ → ℕ → Bool
+holdsMarked F marks n i = any (λ j. F .on i j && isMarked marks j) n
+
+-- whether row i disagrees and holds no such item, so that not "every disagreeing row holds a named card"
+unfoldable pub strays : Family → (ℕ → Bool) → List ℕ → ℕ → ℕ → Bool
+strays F agrees marks n i = not (agrees i) && not (holdsMarked F marks n i)

@@ -1,0 +1,13 @@
+-- By its two tests.
+use borrow.Author.Tests.{le-leb, lt-leb}
+use Rattle.files.proofs.handed.inside.Statement.{statement}
+use Rattle.files.proofs.handed.inside.Tie as tie
+
+returns : tie.Need-returns
+returns c = rw (le-leb _ _ (c .if1 .taken))
+
+returns-2 : tie.Need-returns-2
+returns-2 c = rw (lt-leb _ _ (c .if1 .left))
+
+pub inside-spec : {M : Type 1} → statement M
+inside-spec = tie.close (tie.spec returns returns-2)

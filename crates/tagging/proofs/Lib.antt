@@ -1,0 +1,3 @@
+-- The laws that the proofs of this crate and those of the crates above cite.
+pub mod Summing
+pub mod Writing

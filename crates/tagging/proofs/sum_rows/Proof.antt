@@ -1,0 +1,143 @@
+-- Each turn adds one item (Summing).
+use mathlib.Core.Path.{_≡_, refl, ap, _∙_, sym}
+use mathlib.Core.List.{List}
+use Prim.Native.Nat.{ℕ, _-_, _≤_}
+use native.Mathlib.Omega.{arith}
+use lib.ListN.{length}
+use Rattle.cipher.specs.Aes.{keyExpansion, encipher}
+use Rattle.cipher.specs.Cmac.{subkey1, subkey2}
+use Rattle.incidence.specs.Sum.{rowSum}
+use Rattle.sizes.specs.Sizes.{familyOf}
+use Rattle.files.specs.Message.{behind, item, count}
+use Rattle.files.proofs.Messages.{behind-more}
+use Rattle.keyed.specs.Keyed.{itemHash}
+use Rattle.sums.specs.Adding.{Holds}
+use Rattle.tagging.specs.Tagging.{hashes}
+use Rattle.tagging.proofs.Summing.{summed-first, summed-next, summed-as, item-here, fits-here}
+use borrow.Author.Needs.{needs}
+use Rattle.tagging.proofs.sum_rows.Statement.{statement}
+use Rattle.tagging.proofs.sum_rows.Tie as tie
+
+abbrev Inv-loop : tie.InvT-loop
+Inv-loop code s sums₀ k n c₀ sums c = (c .passed ≤ n) × (c .at ≡ behind s (c .passed)) × (length sums ≡ length sums₀)
+    × ((key : List ℕ) → k .schedule ≡ keyExpansion key → k .k1 ≡ subkey1 (encipher key) → k .k2 ≡ subkey2 (encipher key)
+    → Holds (familyOf code .rows) (λ t. rowSum (familyOf code) (λ j. itemHash key j (item s j)) (c .passed) t) sums₀ sums)
+
+abbrev μ-loop : tie.MeasureT-loop
+μ-loop code s sums₀ k n c₀ sums c = n - c .passed
+
+prepare-requires : tie.Need-prepare-requires Inv-loop μ-loop
+prepare-requires c κs = search needs
+
+number16-requires : tie.Need-number16-requires Inv-loop μ-loop
+number16-requires c κs = search needs
+
+first-requires : tie.Need-first-requires Inv-loop μ-loop
+first-requires c κs = search needs
+
+loop-holds : tie.Need-loop-holds Inv-loop μ-loop
+unfolding behind
+loop-holds c =
+    let f = c .first .ensures in
+    let d = c .before .before .before .before .before .before in
+    let F = familyOf (d .args .code) in (
+      omega (arith, f .1),
+      f .0 ∙ ap (behind (d .args .s .now)) (sym (f .1)),
+      refl,
+      λ key a b e. summed-as F (F .rows) (λ i. i) (λ j. itemHash key j (item (d .args .s .now) j)) 0 (c .first .result .passed) _ _ (sym (f .1))
+          (summed-first F (F .rows) (λ i. i) (λ j. itemHash key j (item (d .args .s .now) j)) (d .args .sums .now) (d .pre .1 .1)),
+    )
+
+add-start : tie.Need-add-start Inv-loop μ-loop
+unfolding count
+add-start c =
+    let l = c .before .before .before in
+    let d = l .before .before .before .before .before .before .before in
+    let f = fits-here (d .args .s .now) (d .pre .0 .2) (l .before .before .number16 .result) (l .loop .c .at) (l .loop .c .passed) (l .before .before .number16 .ensures .0) (l .loop .inv .1) (c .before .if1 .taken) in
+    omega (arith, f .head, d .pre .0 .1)
+
+next-requires : tie.Need-next-requires Inv-loop μ-loop
+unfolding count
+next-requires c κs =
+    let l = c .before .before .before in
+    let d = l .before .before .before .before .before .before .before in
+    let f = fits-here (d .args .s .now) (d .pre .0 .2) (l .before .before .number16 .result) (l .loop .c .at) (l .loop .c .passed) (l .before .before .number16 .ensures .0) (l .loop .inv .1) (c .before .if1 .taken) in
+    (f .head, omega (arith, l .before .before .number16 .ensures .1, c .before .if1 .taken), d .pre .0 .1)
+
+sub-item-hash : tie.Need-sub-item-hash Inv-loop μ-loop
+sub-item-hash c = omega (arith, c .next .ensures .0)
+
+part-item-hash-start : tie.Need-part-item-hash-start Inv-loop μ-loop
+part-item-hash-start c = omega (arith, c .next .ensures .0)
+
+part-item-hash-end : tie.Need-part-item-hash-end Inv-loop μ-loop
+unfolding count
+part-item-hash-end c =
+    let l = c .before .before .before .before in
+    let d = l .before .before .before .before .before .before .before in
+    let f = fits-here (d .args .s .now) (d .pre .0 .2) (l .before .before .number16 .result) (l .loop .c .at) (l .loop .c .passed) (l .before .before .number16 .ensures .0) (l .loop .inv .1) (c .before .before .if1 .taken) in
+    omega (arith, f .room, c .next .ensures .0)
+
+item-hash-requires : tie.Need-item-hash-requires Inv-loop μ-loop
+item-hash-requires c κs = search needs
+
+add-to-rows-requires : tie.Need-add-to-rows-requires Inv-loop μ-loop
+add-to-rows-requires c κs =
+    let l = c .before .before .before .before .before .before .before in
+    let d = l .before .before .before .before .before .before .before in
+    omega (arith, l .loop .inv .2, d .pre .1 .0)
+
+loop-less : tie.Need-loop-less Inv-loop μ-loop
+loop-less c = omega (arith, c .before .before .before .before .before .before .next .ensures .1, c .before .before .before .before .before .before .before .before .if1 .taken)
+
+loop-again : tie.Need-loop-again Inv-loop μ-loop
+loop-again c =
+    let x = c .before .before .before .before .before .before in
+    let l = x .before .before .before .before in
+    let d = l .before .before .before .before .before .before .before in
+    let F = familyOf (d .args .code) in
+    let s = d .args .s .now in
+    let q = l .loop .c in (
+      omega (arith, x .next .ensures .1, x .before .before .if1 .taken),
+      x .next .ensures .0 ∙ behind-more s (q .passed) (q .at) (l .loop .inv .1) ∙ ap (behind s) (sym (x .next .ensures .1)),
+      search needs,
+      λ key a b e. summed-next F (F .rows) (λ i. i) (λ j. itemHash key j (item s j)) (d .args .sums .now) (l .loop .sums) _ _ (q .passed) (x .next .result .passed) (x .next .ensures .1)
+          (c .before .before .before .before .item-hash .ensures key a b e ∙ ap (itemHash key (x .next .result .passed)) (item-here s (q .passed) (x .next .result .passed) (q .at) (x .next .result .at) (l .loop .inv .1) (x .next .ensures .1) (x .next .ensures .0)))
+          (l .loop .inv .3 key a b e) (c .before .before .add-to-rows .ensures),
+    )
+
+same-length : tie.Need-same-length Inv-loop μ-loop
+same-length c = search needs
+
+returns : tie.Need-returns Inv-loop μ-loop
+unfolding hashes count
+returns c =
+    let l = c .before .before in
+    let d = l .before .before .before .before .before .before .before in
+    let F = familyOf (d .args .code) in
+    let p = l .before .before .before .prepare .ensures in
+    let e : l .loop .c .passed ≡ l .before .before .number16 .result = omega (arith, l .loop .inv .0) in
+    summed-as F (F .rows) (λ i. i) (λ j. itemHash (d .args .keys .item) j (item (d .args .s .now) j)) (l .loop .c .passed) _ _ _ (e ∙ l .before .before .number16 .ensures .0)
+    (l .loop .inv .3 (d .args .keys .item) (p .0) (p .1) (p .2))
+
+pub sum-rows-spec : {M : Type 1} → statement M
+sum-rows-spec =
+    tie.close
+    (tie.spec
+    Inv-loop
+    μ-loop
+    prepare-requires
+    number16-requires
+    first-requires
+    loop-holds
+    add-start
+    next-requires
+    sub-item-hash
+    part-item-hash-start
+    part-item-hash-end
+    item-hash-requires
+    add-to-rows-requires
+    loop-less
+    loop-again
+    same-length
+    returns)

@@ -1,0 +1,31 @@
+-- Tag's rule (000, section 4.3; document 01, 'Keys and codes' and 'The two files'): from keys, size code and items to the tag file. Items
+-- are numbered from 1; `items j` is the bytes of item j. Assumes nothing.
+use mathlib.Core.List.{List}
+use Prim.Native.Nat.{ℕ, suc}
+use Rattle.cipher.specs.Block.{slot, listOf}
+use Rattle.incidence.specs.Sum.{rowSum}
+use Rattle.sizes.specs.Sizes.{familyOf}
+use Rattle.files.specs.TagFile.{body, sealed}
+use Rattle.keyed.specs.Keyed.{itemHash, tagOf}
+use Rattle.tagging.specs.declared.Keys.{Keys}
+
+-- "The key bundle is 48 bytes: card key, tag key, seal key, 16 each."
+unfoldable pub keysIn : List ℕ → Keys
+keysIn s = record { item = slot s 0; tag = slot s 1; seal = slot s 2 }
+
+-- the hash of each item (document 01: code of card j)
+unfoldable pub hashes : Keys → (ℕ → List ℕ) → ℕ → List ℕ
+hashes keys items j = itemHash (keys .item) j (items j)
+
+-- the sum that tag k is made of: its row's, over the first n items
+unfoldable pub tagSum : Keys → ℕ → (ℕ → List ℕ) → ℕ → ℕ → List ℕ
+tagSum keys c items n k = rowSum (familyOf c) (hashes keys items) n (familyOf c .rowOfTag k)
+
+-- the tag file of size code c and count n whose tags are made of these sums, laid out and sealed
+unfoldable pub fileOf : Keys → ℕ → ℕ → (ℕ → List ℕ) → List ℕ
+fileOf keys c n sum = sealed (keys .seal) (body c n (listOf (λ k. tagOf (keys .tag) (suc k) (sum (suc k))) (familyOf c .tags)))
+
+-- Tag's rule, for n items. Document 01: "The unaltered sheet of a shelf, for given keys and size, is laid out for that shelf and size
+-- with the tags that Tag's rule gives, and sealed under those keys, whichever call wrote it."
+unfoldable pub tagFile : Keys → ℕ → ℕ → (ℕ → List ℕ) → List ℕ
+tagFile keys c n items = fileOf keys c n (tagSum keys c items n)
