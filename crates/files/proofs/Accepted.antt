@@ -124,6 +124,21 @@ module _ (key : List ℕ) (hk : length key ≡ 16) (c n : ℕ) (tags : List ℕ)
       let u : n ≤ familyOf c .items = leb-true n (familyOf c .items) (and-right (leb 1 n) (leb n (familyOf c .items)) (and-right (known c) (leb 1 n && leb n (familyOf c .items)) fit)) in
       number-bigEndian 2 n (omega (arith, items-few c))
 
+  -- what was laid out is read back
+  pub code-back : codeOf (sealed key (body c n tags)) ≡ c
+  unfolding file
+  code-back = file-code
+
+  pub count-back : countOf (sealed key (body c n tags)) ≡ n
+  unfolding file
+  count-back = file-count
+
+  pub tags-back : tagsIn (sealed key (body c n tags)) ≡ tags
+  unfolding file sealed body header tagPrefix bigEndian tagsIn fileSize
+  tags-back =
+      let e : length file - 24 ≡ 16 * familyOf c .tags = omega (arith, file-length) in
+      ap (λ (k : ℕ). take k (tags ++ cmac key (body c n tags))) e ∙ take-at tags (cmac key (body c n tags)) (16 * familyOf c .tags) long
+
   file-letters : take 5 file ≡ tagPrefix
   unfolding file sealed body header tagPrefix
   file-letters = refl

@@ -8,7 +8,7 @@ ghost use Prim.Native.Nat.{_+_, _≤_};
 ghost use mathlib.Core.List.{_++_};
 ghost use lib.ListN.{length, take, drop};
 ghost use Rattle.cipher.specs.Cmac.{cmac};
-ghost use Rattle.files.specs.TagFile.{header, countFits, refuse6, refuse20};
+ghost use Rattle.files.specs.TagFile.{header, codeOf, countFits, refuse6, refuse20};
 
 fn wide(x: u8) -> u64
     ensures { λ r. ⌜ r ≡ x ⌝ }
@@ -62,6 +62,14 @@ pub fn check(s: &[u8]) -> Refusal
         number: 0,
         place: 0,
     }
+}
+
+// The size code that a file says.
+pub fn code_of(s: &[u8]) -> u64
+    requires { ⌜ 6 ≤ length (now s) ⌝ }
+    ensures { λ r. ⌜ r ≡ codeOf (now (s .entry)) ⌝ }
+{
+    wide(s[5])
 }
 
 // Refusal 20, or none, of a file that is not refused by 6: whether its MAC is right.

@@ -1,0 +1,6 @@
+-- The laws that the proofs of this crate and those of the crates above cite.
+pub mod Checking
+pub mod Filing
+pub mod Comparing
+pub mod Unaltered
+pub mod Claiming

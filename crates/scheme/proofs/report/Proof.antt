@@ -1,0 +1,60 @@
+-- Refused, or decoded (Filing); and demand 3 (Claiming).
+use mathlib.Core.Path.{sym, _∙_, ap}
+use native.Mathlib.Omega.{arith}
+use lib.ListN.{length}
+use Rattle.cipher.proofs.Xor.{bytes-from}
+use Rattle.files.specs.declared.Refusal.{Refusal}
+use Rattle.scheme.specs.Calls.{reportWrites, reportAnswer, reportNamed, reportRows}
+use Rattle.scheme.proofs.Checking.{reportable}
+use Rattle.scheme.proofs.Filing.{if-done, if-refused}
+use Rattle.scheme.proofs.Claiming.{claim}
+use borrow.Author.Needs.{needs}
+use Rattle.scheme.proofs.report.Statement.{statement}
+use Rattle.scheme.proofs.report.Tie as tie
+
+report-refusal-requires : tie.Need-report-refusal-requires
+report-refusal-requires c κs = search needs
+
+returns : tie.Need-returns
+unfolding reportWrites reportAnswer reportNamed reportRows
+returns c =
+    let e = c .before .before .report-refusal .ensures in
+    let t = c .if1 .taken in
+    (e, (if-refused _ _ e _ _ t, (if-refused _ _ e _ _ t, (if-refused _ _ e _ _ t, (if-refused _ _ e _ _ t, λ z. absurd (t z))))))
+
+decode-files-requires : tie.Need-decode-files-requires
+decode-files-requires c κs = ap (λ (x : Refusal). x .number) (sym (c .before .before .before .report-refusal .ensures)) ∙ c .before .if1 .left
+
+same-length : tie.Need-same-length
+same-length c = search needs
+
+returns-2 : tie.Need-returns-2
+unfolding reportWrites reportAnswer reportNamed reportRows
+returns-2 c =
+    let r = c .before .before .before .before .before .before in
+    let d = r .before .before .before .before .before in
+    let e = r .report-refusal .ensures in
+    let t = c .before .before .before .before .if1 .left in
+    let f = c .before .before .decode-files .ensures in
+    let p = reportable (d .args .keys .now) (d .args .message .now) (d .args .file .now) (length (d .args .marks .now)) _ e t in
+    let b = bytes-from (d .args .keys .now) (λ i l. omega (arith, r .before .before .before .before .shared-slice-known .given i)) in (
+      e,
+      (
+        f .0 ∙ if-done _ _ e _ _ t,
+        (
+          f .1 .0 ∙ if-done _ _ e _ _ t,
+          (
+            f .1 .1 .0 ∙ if-done _ _ e _ _ t,
+            (
+              f .1 .1 .1 ∙ if-done _ _ e _ _ t,
+              λ z. claim (d .args .keys .now) (d .args .message .now) (d .args .file .now) _ _ _ _ b p (f .0) (f .1 .0),
+            ),
+          ),
+        ),
+      ),
+    )
+
+pub report-spec : {M : Type 1} → statement M
+report-spec =
+    tie.close
+    (tie.spec report-refusal-requires returns decode-files-requires same-length returns-2)

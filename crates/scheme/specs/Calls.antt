@@ -1,0 +1,115 @@
+-- Document 01, 'Calls and order of checks': Tag, Verify, Report and Replace, each as what it answers and what it leaves in the buffer that
+-- it is lent, for all inputs. Assumes nothing.
+use mathlib.Core.Bool.{Bool, false}
+use mathlib.Core.List.{List, [], _∷_, _++_}
+use Prim.Native.Nat.{ℕ, suc, _-_}
+use lib.Dec.{eqb}
+use lib.ListN.{length, drop}
+use Rattle.cipher.specs.Block.{if_then_else_, same, _⊕_, slot, listOf}
+use Rattle.incidence.specs.Sum.{rowSum, had}
+use Rattle.incidence.specs.Report.{named, numberNamed, disagreeing, answer}
+use Rattle.incidence.specs.declared.Answer.{Answer}
+use Rattle.incidence.specs.declared.Answer.the-variants.{Beyond}
+use Rattle.sizes.specs.Sizes.{familyOf}
+use Rattle.files.specs.declared.Refusal.{Refusal}
+use Rattle.files.specs.Refusals.{unless, passes, first}
+use Rattle.files.specs.Message.{count, item, refuse3, refuse5, refuse8}
+use Rattle.files.specs.TagFile.{fileSize, codeOf, countOf, tagsIn, refuse6, refuse20}
+use Rattle.files.specs.Handed.{refuse1, refuse2, refuse4, refuse7, refuse9}
+use Rattle.keyed.specs.Keyed.{itemHash, tagOf, sumOfTag}
+use Rattle.decoding.specs.Decoding.{marksOf}
+use Rattle.tagging.specs.declared.Keys.{Keys}
+use Rattle.tagging.specs.Tagging.{keysIn, hashes, tagSum, fileOf, tagFile}
+
+-- 21: "counts of shelf and sheet differ"
+unfoldable pub refuse21 : List ℕ → List ℕ → Refusal
+refuse21 s f = unless (eqb (count s) (countOf f)) 21 0
+
+-- ---- Tag (keys, size code, shelf): 1, 2, 3, 4, 5, 7. "Writes the sheet."
+
+-- `room` is the length of the buffer lent
+unfoldable pub tagRefusal : List ℕ → ℕ → List ℕ → ℕ → Refusal
+tagRefusal keys c s room =
+    first (refuse1 (length keys) ∷ refuse2 c ∷ refuse3 s ∷ refuse4 c (count s) ∷ refuse5 s ∷ refuse7 (fileSize c) room ∷ [])
+
+-- what out holds at the end: "Output goes to the front of a lent buffer; the bytes behind stay."
+unfoldable pub tagWrites : List ℕ → ℕ → List ℕ → List ℕ → List ℕ
+tagWrites keys c s out =
+    if passes (tagRefusal keys c s (length out)) then tagFile (keysIn keys) c (count s) (item s) ++ drop (fileSize c) out else out
+
+-- ---- Verify (keys, shelf, sheet): 1, 3, 5, 6, 20, 21. "Yes when the shelf's tags equal the sheet's, else no."
+
+unfoldable pub verifyRefusal : List ℕ → List ℕ → List ℕ → Refusal
+verifyRefusal keys s f =
+    first (refuse1 (length keys) ∷ refuse3 s ∷ refuse5 s ∷ refuse6 f ∷ refuse20 (keysIn keys .seal) f ∷ refuse21 s f ∷ [])
+
+-- the message's tags, one after another
+unfoldable pub tagsFor : Keys → ℕ → List ℕ → List ℕ
+tagsFor keys c s = listOf (λ k. tagOf (keys .tag) (suc k) (tagSum keys c (item s) (count s) (suc k))) (familyOf c .tags)
+
+unfoldable pub verifyYes : List ℕ → List ℕ → List ℕ → Bool
+verifyYes keys s f = if passes (verifyRefusal keys s f) then same (tagsFor (keysIn keys) (codeOf f) s) (tagsIn f) else false
+
+-- ---- Report: as Verify, then 7
+
+unfoldable pub reportRefusal : List ℕ → List ℕ → List ℕ → ℕ → Refusal
+reportRefusal keys s f room = first (verifyRefusal keys s f ∷ refuse7 (count s) room ∷ [])
+
+-- row i's sum from the message
+unfoldable pub sumFrom : Keys → ℕ → List ℕ → ℕ → List ℕ
+sumFrom keys c s i = rowSum (familyOf c) (hashes keys (item s)) (count s) i
+
+-- the sum that tag k of a file was made of: "The sum is had back from a tag by the deciphering."
+unfoldable pub sumTagged : Keys → List ℕ → ℕ → List ℕ
+sumTagged keys f k = sumOfTag (keys .tag) k (slot (tagsIn f) (k - 1))
+
+-- row i's sum from the file: "had back from its tag or, for a row without one, by its pattern"
+unfoldable pub sumHad : Keys → List ℕ → ℕ → List ℕ
+sumHad keys f i = had (familyOf (codeOf f)) (sumTagged keys f) i
+
+-- whether row i agrees: its "sum from the shelf equals its sum from the sheet"
+unfoldable pub agrees : Keys → List ℕ → List ℕ → ℕ → Bool
+agrees keys s f i = same (sumFrom keys (codeOf f) s i) (sumHad keys f i)
+
+-- "Writes n bytes, 1 named and 0 cleared"
+unfoldable pub reportWrites : List ℕ → List ℕ → List ℕ → List ℕ → List ℕ
+reportWrites keys s f out =
+    if passes (reportRefusal keys s f (length out))
+    then marksOf (named (familyOf (codeOf f)) (agrees (keysIn keys) s f)) (count s) ++ drop (count s) out
+    else out
+
+-- the answer; a refused report says Beyond, so that no caller takes it for a good one
+unfoldable pub reportAnswer : List ℕ → List ℕ → List ℕ → List ℕ → Answer
+reportAnswer keys s f out =
+    if passes (reportRefusal keys s f (length out)) then answer (familyOf (codeOf f)) (agrees (keysIn keys) s f) (count s) else Beyond
+
+-- "the number named and the number of rows that disagree", 0 where it refuses
+unfoldable pub reportNamed : List ℕ → List ℕ → List ℕ → List ℕ → ℕ
+reportNamed keys s f out =
+    if passes (reportRefusal keys s f (length out)) then numberNamed (familyOf (codeOf f)) (agrees (keysIn keys) s f) (count s) else 0
+
+unfoldable pub reportRows : List ℕ → List ℕ → List ℕ → List ℕ → ℕ
+reportRows keys s f out =
+    if passes (reportRefusal keys s f (length out)) then disagreeing (agrees (keysIn keys) s f) (familyOf (codeOf f) .rows) else 0
+
+-- ---- Replace (keys, sheet, card number, old card, new card): 1, 6, 20, 8, 9, 7
+
+-- 9: "Place in Replace: 1 old, 2 new, old first."
+unfoldable pub replaceRefusal : List ℕ → List ℕ → ℕ → List ℕ → List ℕ → ℕ → Refusal
+replaceRefusal keys f j old new room =
+    first (refuse1 (length keys) ∷ refuse6 f ∷ refuse20 (keysIn keys .seal) f ∷ refuse8 (countOf f) j ∷ refuse9 (length old) 1
+    ∷ refuse9 (length new) 2 ∷ refuse7 (fileSize (codeOf f)) room ∷ [])
+
+-- "Adds both codes to each tagged row of that card": the sum of tag k, had back and changed
+unfoldable pub replacedSum : Keys → List ℕ → ℕ → List ℕ → List ℕ → ℕ → List ℕ
+replacedSum keys f j old new k =
+    if familyOf (codeOf f) .on (familyOf (codeOf f) .rowOfTag k) j
+    then (sumTagged keys f k ⊕ itemHash (keys .item) j old) ⊕ itemHash (keys .item) j new
+    else sumTagged keys f k
+
+-- "and reseals into a second buffer"
+unfoldable pub replaceWrites : List ℕ → List ℕ → ℕ → List ℕ → List ℕ → List ℕ → List ℕ
+replaceWrites keys f j old new out =
+    if passes (replaceRefusal keys f j old new (length out))
+    then fileOf (keysIn keys) (codeOf f) (countOf f) (replacedSum (keysIn keys) f j old new) ++ drop (fileSize (codeOf f)) out
+    else out

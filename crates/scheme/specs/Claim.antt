@@ -1,0 +1,46 @@
+-- Demand 3 of document 00, in document 01's 'Words of demand 3', for one report: what holds of the bytes that it wrote and of its answer,
+-- whatever was done to the items. `Detects` (crate incidence) has a field for each sentence of the demand. Assumes nothing.
+use mathlib.Core.Path.{_≡_}
+use mathlib.Core.Bool.{Bool, true, not}
+use mathlib.Core.List.{List}
+use Prim.Native.Nat.{ℕ, _-_, _≤_}
+use lib.Dec.{eqb}
+use lib.ListN.{getD}
+use Rattle.cipher.specs.Block.{Bytes, same}
+use Rattle.incidence.specs.Family.{Family}
+use Rattle.incidence.specs.Sum.{rowSum}
+use Rattle.incidence.specs.Detection.{Detects}
+use Rattle.incidence.specs.declared.Answer.{Answer}
+use Rattle.sizes.specs.Sizes.{familyOf}
+use Rattle.files.specs.Message.{count, item}
+use Rattle.tagging.specs.declared.Keys.{Keys}
+use Rattle.tagging.specs.Tagging.{keysIn, hashes, tagFile}
+
+-- "A card has changed when that shelf and the shelf reported hold different bytes under its number."
+unfoldable pub changed : (ℕ → List ℕ) → (ℕ → List ℕ) → ℕ → Bool
+changed old new j = not (same (old j) (new j))
+
+-- "A row cancels when it holds a changed card and the XOR of its cards' old codes equals that of their new ones."
+pub record RowCancels (F : Family) (keys : Keys) (old new : ℕ → List ℕ) (n i : ℕ) : Type 0 where
+  pub low : 1 ≤ i
+  pub high : i ≤ F .rows
+  pub at : ℕ
+  pub at-low : 1 ≤ at
+  pub at-high : at ≤ n
+  pub changes : changed old new at ≡ true
+  pub holds : F .on i at ≡ true
+  pub equal : rowSum F (hashes keys old) n i ≡ rowSum F (hashes keys new) n i
+
+abbrev pub NoRowCancels : Family → Keys → (ℕ → List ℕ) → (ℕ → List ℕ) → ℕ → Type 0
+NoRowCancels F keys old new n = (i : ℕ) → RowCancels F keys old new n i → ⊥
+
+-- "A card is named when Report writes 1 for it."
+unfoldable pub marked : List ℕ → ℕ → Bool
+marked marks j = eqb (getD marks (j - 1) 0) 1
+
+-- Demand 3, of a report with these keys, on message s and tag file f, that wrote these marks and gave this answer: for every size code
+-- and all old items of the same number, where f is the unaltered tag file of the old items under these keys.
+abbrev pub Claim : List ℕ → List ℕ → List ℕ → List ℕ → Answer → Type 0
+Claim keys s f marks said =
+    (c : ℕ) (old : ℕ → List ℕ) → ((j : ℕ) → 1 ≤ j → j ≤ count s → Bytes (old j)) → f ≡ tagFile (keysIn keys) c (count s) old
+    → Detects (familyOf c .limit) (count s) (NoRowCancels (familyOf c) (keysIn keys) old (item s) (count s)) (changed old (item s)) (marked marks) said

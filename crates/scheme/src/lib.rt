@@ -1,0 +1,192 @@
+// The calls of document 01 on whole messages: Tag, Verify, Report and Replace (000, section 4.3). Any arguments, of any length and value:
+// each call does its work or refuses by number, and a refused call leaves the buffer that it was lent as it was.
+use cipher::aes;
+use cipher::cmac;
+use decoding::Decoded;
+use files::Refusal;
+use incidence::Answer;
+use tagging::Keys;
+ghost use mathlib.Core.Path.{_≡_};
+ghost use mathlib.Core.List.{_++_};
+ghost use Prim.Native.Nat.{_*_, _≤_};
+ghost use lib.ListN.{length, drop};
+ghost use Rattle.cipher.specs.Block.{same};
+ghost use Rattle.incidence.specs.Report.{named, numberNamed, disagreeing, answer};
+ghost use Rattle.sizes.specs.Sizes.{familyOf};
+ghost use Rattle.files.specs.Message.{count, item};
+ghost use Rattle.files.specs.TagFile.{fileSize, codeOf, countOf, tagsIn, refuse6};
+ghost use Rattle.sums.specs.Adding.{Holds};
+ghost use Rattle.decoding.specs.Decoding.{marksOf};
+ghost use Rattle.tagging.specs.Tagging.{keysIn, fileOf, tagFile};
+ghost use Rattle.scheme.specs.Calls.{tagRefusal, tagWrites, verifyRefusal, tagsFor, verifyYes, reportRefusal, sumTagged, agrees, reportWrites, reportAnswer, reportNamed, reportRows, replaceRefusal, replacedSum, replaceWrites};
+ghost use Rattle.scheme.specs.Claim.{Claim};
+
+pub mod checks;
+
+// Writes the tag file of a message that is not refused to the front of out.
+fn write_tag_file(keys: &[u8], code: u64, s: &[u8], out: &mut [u8])
+    requires { ⌜ tagRefusal (now keys) code (now s) (length (now out)) .number ≡ 0 ⌝ }
+    ensures { λ _. ⌜ now (out .exit) ≡ tagFile (keysIn (now (keys .entry))) code (count (now (s .entry))) (item (now (s .entry))) ++ drop (fileSize code) (now (out .entry)) ⌝ }
+{
+    let k = tagging::keys_in(keys);
+    let n = files::message::number16(s, 5);
+    let mut sums = [0u8; 1312];
+    tagging::sum_tags(code, k, s, &mut sums);
+    tagging::write_file(code, n, k, &sums, out);
+}
+
+// Tag: writes the tag file of a message for a size code to the front of out; the bytes behind stay.
+// Refuses 1, 2, 3, 4, 5, 7, the first that applies; out is then as it was.
+pub fn tag(keys: &[u8], code: u64, message: &[u8], out: &mut [u8]) -> Refusal
+    ensures refused { λ r. ⌜ r ≡ tagRefusal (now (keys .entry)) code (now (message .entry)) (length (now (out .entry))) ⌝ }
+    ensures written { λ _. ⌜ now (out .exit) ≡ tagWrites (now (keys .entry)) code (now (message .entry)) (now (out .entry)) ⌝ }
+{
+    let refused = checks::tag_refusal(keys, code, message, out.len());
+    if refused.number != 0 {
+        return refused;
+    }
+    write_tag_file(keys, code, message, out);
+    refused
+}
+
+// What Verify says: its refusal, with number 0 where there is none, and yes or no.
+pub struct Verified {
+    pub refused: Refusal,
+    pub yes: bool,
+}
+
+// Whether the tags of a message that is not refused equal the file's.
+fn tags_equal(keys: &[u8], s: &[u8], f: &[u8]) -> bool
+    requires { ⌜ verifyRefusal (now keys) (now s) (now f) .number ≡ 0 ⌝ }
+    ensures { λ r. ⌜ r ≡ same (tagsFor (keysIn (now (keys .entry))) (codeOf (now (f .entry))) (now (s .entry))) (tagsIn (now (f .entry))) ⌝ }
+{
+    let k = tagging::keys_in(keys);
+    let tag_key = k.tag;
+    let code = files::tagfile::code_of(f);
+    let t = sizes::tags(code);
+    let end = 16 * t;
+    let mut sums = [0u8; 1312];
+    tagging::sum_tags(code, k, s, &mut sums);
+    let mut tags = [0u8; 1312];
+    keyed::write_tags(aes::key_expansion(tag_key), &sums, t, &mut tags);
+    check::same(&tags[0..end], &f[8..8 + end])
+}
+
+// Verify: yes when the message's tags equal the file's, else no.
+// Refuses 1, 3, 5, 6, 20, 21, the first that applies, and says no then.
+pub fn verify(keys: &[u8], message: &[u8], file: &[u8]) -> Verified
+    ensures refused { λ r. ⌜ r .refused ≡ verifyRefusal (now (keys .entry)) (now (message .entry)) (now (file .entry)) ⌝ }
+    ensures yes { λ r. ⌜ r .yes ≡ verifyYes (now (keys .entry)) (now (message .entry)) (now (file .entry)) ⌝ }
+{
+    let refused = checks::verify_refusal(keys, message, file);
+    if refused.number != 0 {
+        return Verified {
+            refused: refused,
+            yes: false,
+        };
+    }
+    Verified {
+        refused: refused,
+        yes: tags_equal(keys, message, file),
+    }
+}
+
+// Fills the front of sums with those that the tags of a file were made of; what is behind them stays.
+fn read_sums(keys: Keys, f: &[u8], sums: &mut [u8])
+    requires { ⌜ refuse6 (now f) .number ≡ 0 ⌝ }
+    requires { ⌜ 16 * familyOf (codeOf (now f)) .tags ≤ length (now sums) ⌝ }
+    ensures { λ _. ⌜ Holds (familyOf (codeOf (now (f .entry))) .tags) (sumTagged keys (now (f .entry))) (now (sums .entry)) (now (sums .exit)) ⌝ }
+{
+    let key = keys.tag;
+    let t = sizes::tags(files::tagfile::code_of(f));
+    keyed::write_sums(aes::key_expansion(key), &f[8..], t, sums);
+}
+
+// Writes the file with the old item's hash and the new one's added to the sums of the item's tagged rows, sealed, to the front of out.
+fn write_replaced(keys: &[u8], f: &[u8], j: u64, old: &[u8], new: &[u8], out: &mut [u8])
+    requires { ⌜ replaceRefusal (now keys) (now f) j (now old) (now new) (length (now out)) .number ≡ 0 ⌝ }
+    ensures { λ _. ⌜ now (out .exit) ≡ fileOf (keysIn (now (keys .entry))) (codeOf (now (f .entry))) (countOf (now (f .entry))) (replacedSum (keysIn (now (keys .entry))) (now (f .entry)) j (now (old .entry)) (now (new .entry))) ++ drop (fileSize (codeOf (now (f .entry)))) (now (out .entry)) ⌝ }
+{
+    let k = tagging::keys_in(keys);
+    let item_key = k.item;
+    let code = files::tagfile::code_of(f);
+    let n = files::message::number16(f, 6);
+    let mut sums = [0u8; 1312];
+    read_sums(k, f, &mut sums);
+    let m = cmac::prepare(item_key);
+    tagging::add_item(code, m, &mut sums, j as usize, old);
+    tagging::add_item(code, m, &mut sums, j as usize, new);
+    tagging::write_file(code, n, k, &sums, out);
+}
+
+// Replace: writes the tag file with item j's old bytes replaced by new ones to the front of out; the bytes behind stay.
+// Refuses 1, 6, 20, 8, 9, 7, the first that applies; out is then as it was.
+pub fn replace(keys: &[u8], file: &[u8], j: u64, old: &[u8], new: &[u8], out: &mut [u8]) -> Refusal
+    ensures refused { λ r. ⌜ r ≡ replaceRefusal (now (keys .entry)) (now (file .entry)) j (now (old .entry)) (now (new .entry)) (length (now (out .entry))) ⌝ }
+    ensures written { λ _. ⌜ now (out .exit) ≡ replaceWrites (now (keys .entry)) (now (file .entry)) j (now (old .entry)) (now (new .entry)) (now (out .entry)) ⌝ }
+{
+    let refused = checks::replace_refusal(keys, file, j, old, new, out.len());
+    if refused.number != 0 {
+        return refused;
+    }
+    write_replaced(keys, file, j, old, new, out);
+    refused
+}
+
+// What Report says: its refusal, with number 0 where there is none, its answer, how many items it named, and how many rows disagree.
+pub struct Reported {
+    pub refused: Refusal,
+    pub answer: Answer,
+    pub named: usize,
+    pub rows: usize,
+}
+
+// Decodes the row sums of a message that is not refused against those had back from the tag file.
+fn decode_files(keys: &[u8], s: &[u8], f: &[u8], marks: &mut [u8]) -> Decoded
+    requires { ⌜ reportRefusal (now keys) (now s) (now f) (length (now marks)) .number ≡ 0 ⌝ }
+    ensures written { λ _. ⌜ now (marks .exit) ≡ marksOf (named (familyOf (codeOf (now (f .entry)))) (agrees (keysIn (now (keys .entry))) (now (s .entry)) (now (f .entry)))) (count (now (s .entry))) ++ drop (count (now (s .entry))) (now (marks .entry)) ⌝ }
+    ensures answer { λ r. ⌜ r .answer ≡ answer (familyOf (codeOf (now (f .entry)))) (agrees (keysIn (now (keys .entry))) (now (s .entry)) (now (f .entry))) (count (now (s .entry))) ⌝ }
+    ensures named { λ r. ⌜ r .named ≡ numberNamed (familyOf (codeOf (now (f .entry)))) (agrees (keysIn (now (keys .entry))) (now (s .entry)) (now (f .entry))) (count (now (s .entry))) ⌝ }
+    ensures rows { λ r. ⌜ r .rows ≡ disagreeing (agrees (keysIn (now (keys .entry))) (now (s .entry)) (now (f .entry))) (familyOf (codeOf (now (f .entry))) .rows) ⌝ }
+{
+    let k = tagging::keys_in(keys);
+    let code = files::tagfile::code_of(f);
+    let n = files::message::number16(s, 5);
+    let mut from = [0u8; 4368];
+    tagging::sum_rows(code, k, s, &mut from);
+    let mut tagged = [0u8; 1312];
+    read_sums(k, f, &mut tagged);
+    let mut had = [0u8; 4368];
+    sums::fill_rows(code, &tagged, &mut had);
+    decoding::decode(code, n, &from, &had, marks)
+}
+
+// Report: writes a mark for each item of the message, 1 named and 0 cleared, to the front of marks; the bytes behind stay.
+// Refuses as Verify, then 7, the first that applies; marks are then as they were, the answer is Beyond and the numbers are 0.
+// The clause `detection` is demand 3.
+pub fn report(keys: &[u8], message: &[u8], file: &[u8], marks: &mut [u8]) -> Reported
+    ensures refused { λ r. ⌜ r .refused ≡ reportRefusal (now (keys .entry)) (now (message .entry)) (now (file .entry)) (length (now (marks .entry))) ⌝ }
+    ensures written { λ _. ⌜ now (marks .exit) ≡ reportWrites (now (keys .entry)) (now (message .entry)) (now (file .entry)) (now (marks .entry)) ⌝ }
+    ensures answer { λ r. ⌜ r .answer ≡ reportAnswer (now (keys .entry)) (now (message .entry)) (now (file .entry)) (now (marks .entry)) ⌝ }
+    ensures named { λ r. ⌜ r .named ≡ reportNamed (now (keys .entry)) (now (message .entry)) (now (file .entry)) (now (marks .entry)) ⌝ }
+    ensures rows { λ r. ⌜ r .rows ≡ reportRows (now (keys .entry)) (now (message .entry)) (now (file .entry)) (now (marks .entry)) ⌝ }
+    ensures detection { λ r. ⌜ (r .refused .number ≡ 0 → Claim (now (keys .entry)) (now (message .entry)) (now (file .entry)) (now (marks .exit)) (r .answer)) ⌝ }
+{
+    let refused = checks::report_refusal(keys, message, file, marks.len());
+    if refused.number != 0 {
+        return Reported {
+            refused: refused,
+            answer: Answer::Beyond,
+            named: 0,
+            rows: 0,
+        };
+    }
+    let found = decode_files(keys, message, file, marks);
+    let said = found.answer;
+    Reported {
+        refused: refused,
+        answer: said,
+        named: found.named,
+        rows: found.rows,
+    }
+}

@@ -1,0 +1,92 @@
+-- The sums that a session carries: none yet, a value added to those of one item's tags, and the file made of them.
+use mathlib.Core.Path.{_≡_, refl, sym, ap, _∙_}
+use mathlib.Core.Bool.{Bool, true, false}
+use mathlib.Core.List.{List, _++_}
+use Prim.Native.Nat.{ℕ, suc, _+_, _-_, _*_, _≤_, _<_}
+use native.Mathlib.Omega.{arith}
+use lib.ListN.{length, take, drop, length-append, length-drop, length-replicate, replicate-append-replicate}
+use lib.Seq.{take-at, drop-at}
+use Rattle.cipher.specs.Block.{if_then_else_, _⊕_, zeros, slot, listOf}
+use Rattle.cipher.proofs.Xor.{⊕-length}
+use Rattle.cipher.proofs.Slots.{slot-length, slot-listOf, listOf-length, listOf-ext}
+use Rattle.sizes.specs.Sizes.{familyOf}
+use Rattle.sizes.proofs.Laws.{tags-few}
+use Rattle.files.specs.TagFile.{body, sealed}
+use Rattle.keyed.specs.Keyed.{tagOf}
+use Rattle.sums.specs.Adding.{sumIn, Added}
+use Rattle.tagging.specs.declared.Keys.{Keys}
+use Rattle.tagging.specs.Tagging.{fileOf}
+use Rattle.tagging.proofs.Summing.{holds-is}
+use Rattle.session.specs.Session.{addedToTags}
+
+-- ---- none yet
+
+-- every block of zeros is zero
+pub zeros-slot : (n k : ℕ) → 16 * k + 16 ≤ n → slot (zeros n) k ≡ zeros 16
+unfolding slot
+zeros-slot n k h =
+    let m = n - (16 * k + 16) in
+    let e : 16 * k + (16 + m) ≡ n = omega arith in
+    ap (λ (l : List ℕ). slot l k)
+    (ap (λ (x : ℕ). zeros x) (sym e)
+    ∙ sym (ap (λ (l : List ℕ). zeros (16 * k) ++ l) (replicate-append-replicate 16 m 0) ∙ replicate-append-replicate (16 * k) (16 + m) 0))
+    ∙ ap (take 16) (drop-at (zeros (16 * k)) (zeros 16 ++ zeros m) (16 * k) (length-replicate (16 * k) 0))
+    ∙ take-at (zeros 16) (zeros m) 16 refl
+
+-- ---- a value added
+
+-- the sums take at most 82 blocks
+pub sums-fit : (c : ℕ) (sums : List ℕ) → length sums ≡ 1312 → 16 * familyOf c .tags ≤ length sums
+sums-fit c sums h = omega (arith, tags-few c)
+
+-- the array is the one that `addedToTags` gives
+pub added-is : (c j : ℕ) (value before after : List ℕ) → length before ≡ 1312
+    → Added (λ t. familyOf c .on (familyOf c .rowOfTag t) j) (familyOf c .tags) value before after → after ≡ addedToTags c j value before
+unfolding addedToTags sumIn
+added-is c j value before after h A =
+    let F = familyOf c in
+    holds-is (F .tags) _ before after A (sums-fit c before h)
+    ∙ ap (λ (l : List ℕ). l ++ drop (16 * F .tags) before)
+    (listOf-ext _ _ (F .tags) (λ k l.
+    let z : suc k - 1 ≡ k = omega arith in
+    ap (λ (m : ℕ). if F .on (F .rowOfTag (suc k)) j then slot before m ⊕ value else slot before m) z))
+
+-- and that array has the value added, and nothing else
+module _ (c j : ℕ) (value sums : List ℕ) (v : length value ≡ 16) (s : length sums ≡ 1312) where
+  block : ℕ → List ℕ
+  block k = if familyOf c .on (familyOf c .rowOfTag (suc k)) j then slot sums k ⊕ value else slot sums k
+
+  block-length : (k : ℕ) → k < familyOf c .tags → length (block k) ≡ 16
+  unfolding block
+  block-length k l =
+      let z : length (slot sums k) ≡ 16 = slot-length sums k (omega (arith, sums-fit c sums s)) in
+      go (familyOf c .on (familyOf c .rowOfTag (suc k)) j) z
+    where
+      go : (t : Bool) → length (slot sums k) ≡ 16 → length (if t then slot sums k ⊕ value else slot sums k) ≡ 16
+      go true z = ⊕-length (slot sums k) value (omega arith) ∙ z
+      go false z = z
+
+  pub tags-added : Added (λ t. familyOf c .on (familyOf c .rowOfTag t) j) (familyOf c .tags) value sums (addedToTags c j value sums)
+  unfolding addedToTags block sumIn
+  tags-added =
+      let F = familyOf c in
+      let m = F .tags in
+      let l = listOf-length block m block-length in
+      let f = sums-fit c sums s in
+      record {
+        size = length-append (listOf block m) (drop (16 * m) sums) ∙ simp length-drop (omega (arith, l, f));
+        sums = λ t lo hi.
+            let e : suc (t - 1) ≡ t = omega arith in
+            slot-listOf block m (drop (16 * m) sums) block-length (t - 1) (omega arith)
+            ∙ ap (λ (x : ℕ). if F .on (F .rowOfTag x) j then slot sums (t - 1) ⊕ value else slot sums (t - 1)) e;
+        rest = drop-at (listOf block m) (drop (16 * m) sums) (16 * m) l;
+      }
+
+-- ---- the file
+
+-- a tag file tells no more of the sums than the tags'
+pub file-ext : (k : Keys) (c n : ℕ) (f g : ℕ → List ℕ) → ((t : ℕ) → 1 ≤ t → t ≤ familyOf c .tags → f t ≡ g t) → fileOf k c n f ≡ fileOf k c n g
+unfolding fileOf
+file-ext k c n f g h =
+    ap (λ (l : List ℕ). sealed (k .seal) (body c n l))
+    (listOf-ext _ _ (familyOf c .tags) (λ t l. ap (tagOf (k .tag) (suc t)) (h (suc t) (omega arith) (omega arith))))

@@ -1,0 +1,180 @@
+-- A run of a session: Begin, a Put for each item, Close. What the session carries after each step (`taken-all`); that a run gets to its
+-- end (`accepts`, `runs`); that Close then writes the file that Tag's rule gives for the items put (`closes`); and what a run cannot do:
+-- put one item more (`full`), close before the last (`early`), or go on after Close (`shut`).
+use mathlib.Core.Path.{_≡_, refl, sym, ap, _∙_, subst}
+use mathlib.Core.Bool.{true}
+use mathlib.Core.List.{List, _++_}
+use mathlib.Core.Logic.{_⊎_, inl, inr}
+use Prim.Native.Nat.{ℕ, zero, suc, _+_, _-_, _≤_, _<_}
+use native.Mathlib.Nat.{le-of-suc-le-suc, eq-or-lt-of-le}
+use native.Mathlib.Numerals.{add-one}
+use native.Mathlib.Omega.{arith}
+use lib.Dec.{leb}
+use lib.ListN.{length, drop}
+use borrow.Author.Tests.{eq-eqb, ne-eqb, le-leb, lt-ltb, le-ltb}
+use Rattle.cipher.specs.Block.{zeros, slot}
+use Rattle.cipher.proofs.Slots.{slot-length}
+use Rattle.cipher.proofs.Laws.{cmac-length}
+use Rattle.sizes.specs.Sizes.{known, familyOf}
+use Rattle.sizes.proofs.Laws.{tags-few}
+use Rattle.files.specs.Refusals.{refusal, none, first}
+use Rattle.files.specs.TagFile.{fileSize, countFits}
+use Rattle.files.specs.Handed.{refuse7, refuse9}
+use Rattle.files.proofs.Passing.{unless-true, unless-false, and-left, and-true}
+use Rattle.keyed.specs.Keyed.{itemHash}
+use Rattle.sums.specs.Adding.{sumIn, Holds}
+use Rattle.tagging.specs.Tagging.{keysIn, hashes, tagSum, fileOf, tagFile}
+use Rattle.tagging.proofs.Summing.{summed-first, summed-next}
+use Rattle.session.specs.declared.Session.{Session}
+use Rattle.session.specs.Session.{closed, isOpen, refuse22, refuse23, refuse24, beginRefusal, beginGives, putRefusal, addedToTags, withItem, putGives, closeRefusal, closeGives, closeWrites, after}
+use Rattle.session.proofs.Carried.{zeros-slot, tags-added, file-ext}
+use Rattle.session.proofs.Stepping.{first-same, none-of, given, begin-tells, put-tells}
+
+module _ (keys : List ℕ) (c n : ℕ) (items : ℕ → List ℕ) where
+  -- Begin and the first k puts pass: they refuse nothing
+  pub record Runs (k : ℕ) : Type 0 where
+    pub begun : beginRefusal keys c n ≡ none
+    pub put : (i : ℕ) → i < k → putRefusal (after keys c n items i) (items (suc i)) ≡ none
+
+  -- a session, for these keys, code and count, that has taken the first k items: it is open, and its sums are those that Tag's rule gives
+  -- for these k, one for each tag, with nothing behind them
+  pub record Carries (k : ℕ) (s : Session) : Type 0 where
+    pub code : s .code ≡ c
+    pub count : s .count ≡ n
+    pub taken : s .taken ≡ k
+    pub same-keys : s .keys ≡ keysIn keys
+    pub sums : Holds (familyOf c .tags) (tagSum (keysIn keys) c items k) (zeros 1312) (s .sums)
+    pub is-open : isOpen s ≡ true
+
+  -- the session that Begin gives
+  empty : Session
+  empty = record { code = c; count = n; taken = 0; keys = keysIn keys; sums = zeros 1312 }
+
+  carries-none : beginRefusal keys c n ≡ none → Carries 0 empty
+  unfolding empty tagSum sumIn isOpen countFits
+  carries-none e =
+      let b = begin-tells keys c n none (sym e) refl in
+      record {
+        code = refl;
+        count = refl;
+        taken = refl;
+        same-keys = refl;
+        sums = summed-first (familyOf c) (familyOf c .tags) (familyOf c .rowOfTag) (hashes (keysIn keys) items) (zeros 1312)
+            (λ t lo hi. zeros-slot 1312 (t - 1) (omega (arith, tags-few c)));
+        is-open = and-true _ _ (and-true _ _ (b .code) (and-true _ _ (le-leb 1 n (b .low)) (le-leb n _ (b .high)))) (le-leb 0 n (omega arith));
+      }
+
+  module _ (long : length keys ≡ 48) (s : Session) (k : ℕ) (H : Carries k s) (p : putRefusal s (items (suc k)) ≡ none) where
+    hash : List ℕ
+    hash = itemHash (keysIn keys .item) (suc k) (items (suc k))
+
+    hash-length : length hash ≡ 16
+    unfolding hash itemHash keysIn
+    hash-length = cmac-length (slot keys 0) (slot-length keys 0 (omega arith)) _
+
+    number : s .taken + 1 ≡ suc k
+    number = omega (arith, H .taken)
+
+    sums-next : withItem s (items (suc k)) .sums ≡ addedToTags c (suc k) hash (s .sums)
+    unfolding withItem hash
+    sums-next = λ i. addedToTags (H .code i) (number i) (itemHash (H .same-keys i .item) (number i) (items (suc k))) (s .sums)
+
+    carries-more : Carries (suc k) (withItem s (items (suc k)))
+    unfolding withItem tagSum hashes hash isOpen
+    carries-more =
+        let F = familyOf c in
+        let q = put-tells s (items (suc k)) none (sym p) refl in
+        let l : length (s .sums) ≡ 1312 = H .sums .size in
+        record {
+          code = H .code;
+          count = H .count;
+          taken = number;
+          same-keys = H .same-keys;
+          sums = subst (λ (x : List ℕ). Holds (F .tags) (tagSum (keysIn keys) c items (suc k)) (zeros 1312) x) (sym sums-next)
+              (summed-next F (F .tags) (F .rowOfTag) (hashes (keysIn keys) items) (zeros 1312) (s .sums) _ hash k (suc k) (sym (add-one k)) refl
+              (H .sums)
+              (tags-added c (suc k) hash (s .sums) hash-length l));
+          is-open = and-true _ _ (and-left (countFits (s .code) (s .count)) (leb (s .taken) (s .count)) (H .is-open))
+              (le-leb (s .taken + 1) (s .count) (omega (arith, q .more)));
+        }
+
+  -- After Begin and k puts that pass, the session is open, has taken k items, and its sums are those that Tag's rule gives for the first k.
+  pub taken-all : (k : ℕ) → Runs k → Carries k (after keys c n items k)
+  unfolding after beginGives putGives empty
+  taken-all zero R = subst (Carries 0) (given none (beginRefusal keys c n) (sym (R .begun)) empty closed refl) (carries-none (R .begun))
+  taken-all (suc k) R =
+      let s = after keys c n items k in
+      let H = taken-all k (record { begun = R .begun; put = λ i l. R .put i (omega arith) }) in
+      let b = begin-tells keys c n none (sym (R .begun)) refl in
+      let p = R .put k (omega arith) in
+      subst (Carries (suc k)) (given none (putRefusal s (items (suc k))) (sym p) (withItem s (items (suc k))) s refl)
+      (carries-more (b .long) s k H p)
+
+  -- While fewer than n items are put, a put of any item of at most 1,024 bytes passes.
+  pub accepts : (k : ℕ) → Runs k → k < n → (item : List ℕ) → length item ≤ 1024 → putRefusal (after keys c n items k) item ≡ none
+  unfolding putRefusal refuse24 refuse22 refuse9
+  accepts k R l item h =
+      let s = after keys c n items k in
+      let H = taken-all k R in
+      none-of _ _ _ (unless-true _ 24 0 (H .is-open)) (unless-true _ 22 0 (lt-ltb (s .taken) (s .count) (omega (arith, H .taken, H .count))))
+      (unless-true _ 9 0 (le-leb (length item) 1024 h))
+
+  -- So where Begin passes and no item has more than 1,024 bytes, every put passes.
+  pub runs : beginRefusal keys c n ≡ none → ((j : ℕ) → 1 ≤ j → j ≤ n → length (items j) ≤ 1024) → (k : ℕ) → k ≤ n → Runs k
+  runs e h zero l = record { begun = e; put = λ i z. absurd (omega arith) }
+  runs e h (suc k) l =
+      let R = runs e h k (omega arith) in
+      record { begun = e; put = λ i z. go i R (eq-or-lt-of-le (le-of-suc-le-suc z)) }
+    where
+      go : (i : ℕ) → Runs k → (i ≡ k) ⊎ (i < k) → putRefusal (after keys c n items i) (items (suc i)) ≡ none
+      go i R (inl q) = accepts i (subst Runs (sym q) R) (omega arith) (items (suc i)) (h (suc i) (omega arith) (omega arith))
+      go i R (inr z) = R .put i z
+
+  passes-close : (s : Session) (out : List ℕ) → Carries n s → fileSize c ≤ length out → closeRefusal s out ≡ none
+  unfolding closeRefusal refuse24 refuse23 refuse7
+  passes-close s out H room =
+      none-of _ _ _ (unless-true _ 24 0 (H .is-open)) (unless-true _ 23 (s .taken) (eq-eqb (s .taken) (s .count) (omega (arith, H .taken, H .count))))
+      (unless-true _ 7 0 (ap (λ (x : ℕ). leb (fileSize x) (length out)) (H .code) ∙ le-leb (fileSize c) (length out) room))
+
+  -- After n puts that pass, Close passes where the lent buffer has room: it writes Tag's rule's file for these keys, code and items to the
+  -- front, leaves the bytes behind, and gives the closed session. Nothing is asked of the items' length together. Document 01: "writes
+  -- the sheet that Tag's rule gives for these cards, even where they are too long together for one shelf file".
+  pub closes : Runs n → (out : List ℕ) → fileSize c ≤ length out
+      → (closeRefusal (after keys c n items n) out ≡ none)
+      × (closeWrites (after keys c n items n) out ≡ tagFile (keysIn keys) c n items ++ drop (fileSize c) out)
+      × (closeGives (after keys c n items n) out ≡ closed)
+  unfolding closeWrites closeGives tagFile
+  closes R out room =
+      let s = after keys c n items n in
+      let H = taken-all n R in
+      let q = passes-close s out H room in (
+        q,
+        sym (given none (closeRefusal s out) (sym q) (fileOf (s .keys) (s .code) (s .count) (sumIn (s .sums)) ++ drop (fileSize (s .code)) out) out refl)
+            ∙ (λ i. fileOf (H .same-keys i) (H .code i) (H .count i) (sumIn (s .sums)) ++ drop (fileSize (H .code i)) out)
+            ∙ ap (λ (l : List ℕ). l ++ drop (fileSize c) out) (file-ext (keysIn keys) c n (sumIn (s .sums)) (tagSum (keysIn keys) c items n) (H .sums .sums)),
+        sym (given none (closeRefusal s out) (sym q) closed s refl),
+      )
+
+  -- After n puts that pass, one more is refused: 22.
+  pub full : Runs n → (item : List ℕ) → putRefusal (after keys c n items n) item ≡ refusal 22 0
+  unfolding putRefusal refuse24 refuse22 first
+  full R item =
+      let s = after keys c n items n in
+      let H = taken-all n R in
+      first-same _ _ (refuse9 (length item) 0) none (refusal 22 0) _ (unless-true _ 24 0 (H .is-open))
+      (unless-false _ 22 0 (le-ltb (s .taken) (s .count) (omega (arith, H .taken, H .count)))) refl
+
+  -- After k puts that pass, k below n, Close is refused: 23, at place k.
+  pub early : (k : ℕ) → Runs k → k < n → (out : List ℕ) → closeRefusal (after keys c n items k) out ≡ refusal 23 k
+  unfolding closeRefusal refuse24 refuse23 first
+  early k R l out =
+      let s = after keys c n items k in
+      let H = taken-all k R in
+      let d : (s .taken ≡ s .count → ⊥) = λ e. omega (arith, H .taken, H .count) in
+      first-same _ _ (refuse7 (fileSize (s .code)) (length out)) none (refusal 23 k) _ (unless-true _ 24 0 (H .is-open))
+      (unless-false _ 23 (s .taken) (ne-eqb (s .taken) (s .count) d) ∙ ap (refusal 23) (H .taken)) refl
+
+-- A put and a close of the closed session are refused: 24.
+pub shut : (item out : List ℕ) → (putRefusal closed item ≡ refusal 24 0) × (closeRefusal closed out ≡ refusal 24 0)
+unfolding putRefusal closeRefusal refuse24 isOpen closed countFits known first
+shut item out = (refl, refl)

@@ -1,0 +1,27 @@
+-- By its two tests.
+use mathlib.Core.Path.{sym, ap, _∙_}
+use mathlib.Core.Bool.{Bool, _&&_}
+use lib.Dec.{leb}
+use Rattle.files.proofs.Passing.{and-false-l}
+use Rattle.session.specs.Session.{isOpen}
+use borrow.Author.Needs.{needs}
+use Rattle.session.proofs.Session.is_open.Statement.{statement}
+use Rattle.session.proofs.Session.is_open.Tie as tie
+
+count-fits-requires : tie.Need-count-fits-requires
+count-fits-requires c κs = search needs
+
+returns : tie.Need-returns
+unfolding isOpen
+returns c =
+    let s = c .before .before .before .args .self in
+    sym (ap (λ (t : Bool). t && leb (s .taken) (s .count)) (sym (c .before .before .count-fits .ensures) ∙ c .before .if1 .taken))
+
+returns-2 : tie.Need-returns-2
+unfolding isOpen
+returns-2 c =
+    let s = c .before .before .args .self in
+    c .if1 .left ∙ sym (and-false-l _ (leb (s .taken) (s .count)) (sym (c .before .count-fits .ensures) ∙ c .if1 .left))
+
+pub is-open-spec : {M : Type 1} → statement M
+is-open-spec = tie.close (tie.spec count-fits-requires returns returns-2)

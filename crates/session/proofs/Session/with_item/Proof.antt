@@ -1,0 +1,36 @@
+-- The sums take the item's hash (Stepping).
+use mathlib.Core.Path.{_≡_}
+use lib.ListN.{length}
+use Rattle.session.proofs.Carried.{sums-fit, added-is}
+use Rattle.session.proofs.Stepping.{with-item-is}
+use borrow.Author.Needs.{needs}
+use Rattle.session.proofs.Session.with_item.Statement.{statement}
+use Rattle.session.proofs.Session.with_item.Tie as tie
+
+add-j : tie.Need-add-j
+add-j c = search needs
+
+prepare-requires : tie.Need-prepare-requires
+prepare-requires c κs = search needs
+
+slice-aggregate-add-item : tie.Need-slice-aggregate-add-item
+slice-aggregate-add-item c = search needs
+
+add-item-requires : tie.Need-add-item-requires
+add-item-requires c κs =
+    let d = c .before .before .before .before .before .before .before in
+    let s = d .args .self in
+    let h : length (s .sums) ≡ 1312 = search needs in
+    (d .pre .0, sums-fit (s .code) (s .sums) h)
+
+returns : tie.Need-returns
+returns c =
+    let p = c .before .before .before in
+    let d = p .before .before .before .before .before .before in
+    let s = d .args .self in
+    let h : length (s .sums) ≡ 1312 = search needs in
+    let q = p .prepare .ensures in
+    with-item-is s (d .args .item .now) _ (added-is (s .code) _ _ (s .sums) _ h (c .before .add-item .ensures (s .keys .item) (q .0) (q .1) (q .2)))
+
+pub with-item-spec : {M : Type 1} → statement M
+with-item-spec = tie.close (tie.spec add-j prepare-requires slice-aggregate-add-item add-item-requires returns)

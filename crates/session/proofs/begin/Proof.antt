@@ -1,0 +1,40 @@
+-- The new session where the refusal's number is 0, else the closed one (Stepping).
+use mathlib.Core.Path.{_∙_}
+use native.Mathlib.Omega.{arith}
+use Rattle.session.specs.Session.{closed, beginRefusal, beginGives}
+use Rattle.session.proofs.Stepping.{given, kept, begin-tells, begun-is}
+use borrow.Author.Needs.{needs}
+use Rattle.session.proofs.begin.Statement.{statement}
+use Rattle.session.proofs.begin.Tie as tie
+
+begin-refusal-requires : tie.Need-begin-refusal-requires
+begin-refusal-requires c κs = search needs
+
+keys-in-requires : tie.Need-keys-in-requires
+keys-in-requires c κs =
+    let q = c .before .before in
+    let d = q .before .before in
+    let b = begin-tells (d .args .keys .now) (d .args .code) (d .args .n) _ (q .begin-refusal .ensures) (c .if1 .taken) in omega (arith, b .long)
+
+returns : tie.Need-returns
+unfolding beginGives
+returns c =
+    let q = c .before .before .before in
+    let d = q .before .before in
+    let k = d .args .keys .now in
+    let e = begun-is k (d .args .code) (d .args .n) _ (c .keys-in .ensures) in
+    (q .begin-refusal .ensures, e ∙ given _ (beginRefusal k (d .args .code) (d .args .n)) (q .begin-refusal .ensures) _ closed (c .before .if1 .taken))
+
+closed-requires : tie.Need-closed-requires
+closed-requires c κs = search needs
+
+returns-2 : tie.Need-returns-2
+unfolding beginGives
+returns-2 c =
+    let q = c .before .before .before in
+    let d = q .before .before in
+    let k = d .args .keys .now in
+    (q .begin-refusal .ensures, c .closed .ensures ∙ kept _ (beginRefusal k (d .args .code) (d .args .n)) (q .begin-refusal .ensures) _ closed (c .before .if1 .left))
+
+pub begin-spec : {M : Type 1} → statement M
+begin-spec = tie.close (tie.spec begin-refusal-requires keys-in-requires returns closed-requires returns-2)

@@ -1,0 +1,210 @@
+// Sessions (document 01): a message tagged item by item, where it is never whole in memory. Each step takes the session and gives back
+// the next; nothing is held anywhere else.
+use cipher::cmac;
+use files::Refusal;
+use files::handed;
+use files::tagfile;
+use tagging::Keys;
+ghost use mathlib.Core.Path.{_≡_};
+ghost use mathlib.Core.Bool.{true};
+ghost use mathlib.Core.List.{[], _∷_};
+ghost use Prim.Native.Nat.{_<_};
+ghost use Rattle.sizes.specs.Sizes.{known};
+ghost use Rattle.files.specs.Refusals.{first};
+ghost use Rattle.files.specs.Handed.{refuse7};
+ghost use Rattle.files.specs.TagFile.{fileSize};
+ghost use Rattle.session.specs.Session.{closed, isOpen, refuse22, refuse23, refuse24, beginRefusal, beginGives, putRefusal, withItem, putGives, closeRefusal, closeGives, closeWrites};
+
+// A session: size code, how many items it is for and has taken, the three keys, and the sums of the tags.
+pub struct Session {
+    pub code: u64,
+    pub count: u64,
+    pub taken: u64,
+    pub keys: Keys,
+    pub sums: [u8; 1312],
+}
+
+// What a step gives: its refusal, with number 0 where there is none, and the next session.
+pub struct Step {
+    pub refused: Refusal,
+    pub session: Session,
+}
+
+// The first that applies of three, or none.
+fn first_of(a: Refusal, b: Refusal, c: Refusal) -> Refusal
+    ensures { λ r. ⌜ r ≡ first (a ∷ b ∷ c ∷ []) ⌝ }
+{
+    if a.number != 0 {
+        return a;
+    }
+    if b.number != 0 {
+        return b;
+    }
+    if c.number != 0 {
+        return c;
+    }
+    Refusal {
+        number: 0,
+        place: 0,
+    }
+}
+
+// The closed session.
+fn closed() -> Session
+    ensures { λ r. ⌜ r ≡ closed ⌝ }
+{
+    Session {
+        code: 0,
+        count: 0,
+        taken: 0,
+        keys: Keys {
+            item: [0u8; 16],
+            tag: [0u8; 16],
+            seal: [0u8; 16],
+        },
+        sums: [0u8; 1312],
+    }
+}
+
+// Begin's refusal: 1, 2 or 4, or none.
+fn begin_refusal(keys: &[u8], code: u64, n: u64) -> Refusal
+    ensures { λ r. ⌜ r ≡ beginRefusal (now (keys .entry)) code n ⌝ }
+{
+    let wrong_keys = handed::check_keys(keys);
+    let wrong_code = handed::check_code(code);
+    let wrong_count = handed::check_count(code, n);
+    first_of(wrong_keys, wrong_code, wrong_count)
+}
+
+// Begins a session for n items of a size code. Refuses 1, 2, 4, the first that applies, and gives the closed session then.
+pub fn begin(keys: &[u8], code: u64, n: u64) -> Step
+    ensures refused { λ r. ⌜ r .refused ≡ beginRefusal (now (keys .entry)) code n ⌝ }
+    ensures session { λ r. ⌜ r .session ≡ beginGives (now (keys .entry)) code n ⌝ }
+{
+    let refused = begin_refusal(keys, code, n);
+    if refused.number == 0 {
+        let session = Session {
+            code,
+            count: n,
+            taken: 0,
+            keys: tagging::keys_in(keys),
+            sums: [0u8; 1312],
+        };
+        return Step { refused, session };
+    }
+    Step {
+        refused,
+        session: closed(),
+    }
+}
+
+impl Session {
+    // Whether the session is open.
+    fn is_open(self) -> bool
+        ensures { λ r. ⌜ r ≡ isOpen self ⌝ }
+    {
+        tagfile::count_fits(self.code, self.count) && self.taken <= self.count
+    }
+
+    // Refusal 24, or none.
+    fn check_open(self) -> Refusal
+        ensures { λ r. ⌜ r ≡ refuse24 self ⌝ }
+    {
+        handed::unless(self.is_open(), 24, 0)
+    }
+
+    // Refusal 22, or none.
+    fn check_more(self) -> Refusal
+        ensures { λ r. ⌜ r ≡ refuse22 self ⌝ }
+    {
+        handed::unless(self.taken < self.count, 22, 0)
+    }
+
+    // Refusal 23, or none.
+    fn check_all(self) -> Refusal
+        ensures { λ r. ⌜ r ≡ refuse23 self ⌝ }
+    {
+        handed::unless(self.taken == self.count, 23, self.taken as usize)
+    }
+
+    // Put's refusal: 24, 22 or 9, or none.
+    fn put_refusal(self, item: &[u8]) -> Refusal
+        ensures { λ r. ⌜ r ≡ putRefusal self (now (item .entry)) ⌝ }
+    {
+        let shut = self.check_open();
+        let full = self.check_more();
+        let long = handed::check_item(item, 0);
+        first_of(shut, full, long)
+    }
+
+    // The session with one item more, for a put that passes.
+    fn with_item(self, item: &[u8]) -> Session
+        requires { ⌜ known (self .code) ≡ true ⌝ }
+        requires { ⌜ self .taken < self .count ⌝ }
+        ensures { λ r. ⌜ r ≡ withItem self (now (item .entry)) ⌝ }
+    {
+        let code = self.code;
+        let keys = self.keys;
+        let key = keys.item;
+        let j = self.taken + 1;
+        let mut sums = self.sums;
+        tagging::add_item(code, cmac::prepare(key), &mut sums, j as usize, item);
+        Session {
+            code,
+            count: self.count,
+            taken: j,
+            keys,
+            sums,
+        }
+    }
+
+    // Puts the next item. Refuses 24, 22, 9, the first that applies; the session is unchanged then.
+    pub fn put(self, item: &[u8]) -> Step
+        ensures refused { λ r. ⌜ r .refused ≡ putRefusal self (now (item .entry)) ⌝ }
+        ensures session { λ r. ⌜ r .session ≡ putGives self (now (item .entry)) ⌝ }
+    {
+        let refused = self.put_refusal(item);
+        if refused.number != 0 {
+            return Step {
+                refused,
+                session: self,
+            };
+        }
+        Step {
+            refused,
+            session: self.with_item(item),
+        }
+    }
+
+    // Close's refusal: 24, 23 or 7, or none, where so many bytes are lent.
+    fn close_refusal(self, room: usize) -> Refusal
+        ensures { λ r. ⌜ r ≡ first (refuse24 self ∷ refuse23 self ∷ refuse7 (fileSize (self .code)) room ∷ []) ⌝ }
+    {
+        let size = 24 + 16 * sizes::tags(self.code);
+        let shut = self.check_open();
+        let early = self.check_all();
+        let short = handed::check_room(size, room);
+        first_of(shut, early, short)
+    }
+
+    // Closes the session: writes the tag file of its items to the front of out; the bytes behind stay. Refuses 24, 23, 7, the first that
+    // applies; session and out are unchanged then.
+    pub fn close(self, out: &mut [u8]) -> Step
+        ensures refused { λ r. ⌜ r .refused ≡ closeRefusal self (now (out .entry)) ⌝ }
+        ensures session { λ r. ⌜ r .session ≡ closeGives self (now (out .entry)) ⌝ }
+        ensures written { λ _. ⌜ now (out .exit) ≡ closeWrites self (now (out .entry)) ⌝ }
+    {
+        let refused = self.close_refusal(out.len());
+        if refused.number != 0 {
+            return Step {
+                refused,
+                session: self,
+            };
+        }
+        let keys = self.keys;
+        let sums = self.sums;
+        tagging::write_file(self.code, self.count as usize, keys, &sums, out);
+        let session = closed();
+        Step { refused, session }
+    }
+}
