@@ -2,11 +2,10 @@
 use crate::Refusal;
 use cipher::block;
 ghost use mathlib.Core.Path.{_≡_};
-ghost use mathlib.Core.Bool.{true};
 ghost use Prim.Native.Nat.{_+_, _≤_, _<_};
 ghost use lib.ListN.{length};
 ghost use Rattle.files.specs.Refusals.{none};
-ghost use Rattle.files.specs.Message.{number16, count, behind, fits, start, size, refuse3, refuse5, fetchRefusal, fetchStart, fetchSize, PartOf};
+ghost use Rattle.files.specs.Message.{number16, count, behind, fits, refuse3, refuse5, fetchRefusal, fetchStart, fetchSize, PartOf};
 
 // The 2-byte number at a place.
 pub fn number16(s: &[u8], at: usize) -> usize

@@ -8,9 +8,7 @@ ghost use mathlib.Core.Path.{_≡_};
 ghost use mathlib.Core.List.{List, _++_};
 ghost use Prim.Native.Nat.{ℕ, _*_, _≤_};
 ghost use lib.ListN.{length, drop};
-ghost use Rattle.cipher.specs.Block.{_⊕_};
-ghost use Rattle.cipher.specs.Number.{bigEndian};
-ghost use Rattle.cipher.specs.Aes.{keyExpansion, cipher, invCipher, encipher};
+ghost use Rattle.cipher.specs.Aes.{keyExpansion, encipher};
 ghost use Rattle.cipher.specs.Cmac.{subkey1, subkey2};
 ghost use Rattle.keyed.specs.Keyed.{itemHash, mask, tagOf, sumOfTag, tagsOf, sumsOf};
 

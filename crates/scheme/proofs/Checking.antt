@@ -6,14 +6,14 @@ use Prim.Native.Nat.{ℕ, _≤_}
 use native.Mathlib.Omega.{arith}
 use lib.Dec.{eqb, leb}
 use lib.ListN.{length, take}
-use borrow.Author.Tests.{eqb-true, eqb-false, eq-eqb, leb-true}
+use borrow.Author.Tests.{eqb-true, eqb-false, leb-true}
 use Rattle.cipher.specs.Block.{if_then_else_, same}
 use Rattle.cipher.specs.Cmac.{cmac}
 use Rattle.incidence.specs.Count.{inside}
 use Rattle.incidence.proofs.Counting.{inside-low, inside-high}
 use Rattle.sizes.specs.Sizes.{known, familyOf}
 use Rattle.files.specs.declared.Refusal.{Refusal}
-use Rattle.files.specs.Refusals.{refusal, none, unless, passes, first}
+use Rattle.files.specs.Refusals.{none, passes, first}
 use Rattle.files.specs.Message.{count, refuse3, refuse5, refuse8}
 use Rattle.files.specs.TagFile.{tagPrefix, fileSize, codeOf, countOf, countFits, bodyOf, macOf, refuse6, refuse20}
 use Rattle.files.specs.Handed.{refuse1, refuse2, refuse4, refuse7, refuse9}
@@ -118,6 +118,7 @@ keys-long n r e h = eqb-true n 48 (unless-passes (eqb n 48) 1 0 (omega arith) (n
 
 -- a message file that is not refused
 pub record Sound (s : List ℕ) : Type 0 where
+  pub head : refuse3 s ≡ none
   pub long : 7 ≤ length s
   pub short : length s ≤ 65536
   pub whole : refuse5 s ≡ none
@@ -126,7 +127,7 @@ pub sound : (s : List ℕ) (r : Refusal) → r ≡ first (refuse3 s ∷ refuse5 
 sound s r e h =
     let a = rest-passes (refuse3 s) (refuse5 s ∷ []) (number-of r _ e h) in
     let l = headed s (a .0) in
-    record { long = l .0; short = l .1; whole = plain5 s (rest-passes (refuse5 s) [] (a .1) .0) }
+    record { head = plain3 s (a .0); long = l .0; short = l .1; whole = plain5 s (rest-passes (refuse5 s) [] (a .1) .0) }
 
 -- and a tag file
 pub fine-file : (key f : List ℕ) (r : Refusal) → r ≡ first (refuse6 f ∷ refuse20 key f ∷ []) → r .number ≡ 0 → Formed f
@@ -167,7 +168,7 @@ comparable keys s f r e h =
     let l = headed s (b .0) in
     record {
       keys48 = keys-long (length keys) (refuse1 (length keys)) refl (a .0);
-      message = record { long = l .0; short = l .1; whole = plain5 s (c .0) };
+      message = record { head = plain3 s (b .0); long = l .0; short = l .1; whole = plain5 s (c .0) };
       six = d .0;
       file = formed f (d .0);
       seal = plain20 key f (g .0);
@@ -213,7 +214,7 @@ taggable keys c s room r e h =
     record {
       keys48 = keys-long (length keys) (refuse1 (length keys)) refl (a .0);
       code = unless-passes (known c) 2 0 (omega arith) (b .0);
-      message = record { long = l .0; short = l .1; whole = plain5 s (g .0) };
+      message = record { head = plain3 s (d .0); long = l .0; short = l .1; whole = plain5 s (g .0) };
       low = inside-low _ _ n;
       high = inside-high _ _ n;
       fits = roomy (fileSize c) room (g .1);

@@ -2,7 +2,7 @@
 -- detection theorem of crate incidence.
 use mathlib.Core.Path.{_≡_, refl, sym, ap, ap₂, _∙_, subst}
 use mathlib.Core.Bool.{Bool, true, false, not}
-use mathlib.Core.List.{List, [], _∷_, _++_, append-assoc}
+use mathlib.Core.List.{List, [], _∷_, _++_}
 use mathlib.Core.Logic.{_⊎_, inl, inr}
 use Prim.Native.Nat.{ℕ, zero, suc, _-_, _≤_, _<_}
 use native.Mathlib.Omega.{arith}
@@ -10,16 +10,16 @@ use native.Mathlib.Nat.{le-of-suc-le-suc, eq-or-lt-of-le}
 use lib.Dec.{eqb}
 use lib.ListN.{length, getD, length-append, List·getD-append}
 use lib.Seq.{getD-at}
-use borrow.Author.Tests.{not-true}
 use Rattle.cipher.specs.Block.{Bytes, same}
 use Rattle.cipher.proofs.Xor.{same-true, same-eq}
+use Rattle.incidence.specs.Count as tally
 use Rattle.incidence.specs.Count.{bit}
 use Rattle.incidence.specs.Sum.{rowSum}
-use Rattle.incidence.specs.Report.{named, answer}
+use Rattle.incidence.specs.Report.{named, numberNamed, answer}
 use Rattle.incidence.specs.Detection.{Detects, QuietRowsAgree, ChangedRowsDisagree}
 use Rattle.incidence.specs.declared.Answer.{Answer}
 use Rattle.incidence.proofs.Booleans.{not-both, not-passed}
-use Rattle.incidence.proofs.Counting.{last-or}
+use Rattle.incidence.proofs.Counting.{count-ext}
 use Rattle.incidence.proofs.Sums.{rowSum-same}
 use Rattle.incidence.proofs.Detection.{detects}
 use Rattle.incidence.proofs.Rejects.{detects-as}
@@ -27,13 +27,12 @@ use Rattle.sizes.specs.Sizes.{familyOf}
 use Rattle.sizes.proofs.Laws.{lawful}
 use Rattle.files.specs.Message.{count, item}
 use Rattle.files.specs.TagFile.{tagPrefix, header, body, sealed, codeOf, countFits}
-use Rattle.files.proofs.Accepted.{Formed}
 use Rattle.decoding.specs.Decoding.{marksOf}
 use Rattle.tagging.specs.declared.Keys.{Keys}
 use Rattle.tagging.specs.Tagging.{keysIn, hashes, fileOf, tagFile}
-use Rattle.scheme.specs.Calls.{sumFrom, sumHad, agrees}
-use Rattle.scheme.specs.Claim.{changed, RowCancels, NoRowCancels, marked, Claim}
-use Rattle.scheme.proofs.Checking.{Reportable, Comparable}
+use Rattle.scheme.specs.Calls.{sumFrom, agrees}
+use Rattle.scheme.specs.Claim.{changed, NoRowCancels, marked, Claim}
+use Rattle.scheme.proofs.Checking.{Reportable}
 use Rattle.scheme.proofs.Unaltered.{KeyBlocks, key-blocks, hashes-long, fit-code, fit-count, code-is, rows-back}
 
 -- ---- the marks written
@@ -103,21 +102,27 @@ module _ (K : Keys) (B : KeyBlocks K) (s : List ℕ) (c : ℕ) (fit : countFits 
         equal = sym (same-true _ _ (sym (row-agrees i l u) ∙ t));
       }))
 
-  pub claimed : (f marks rest : List ℕ) (said : Answer) → f ≡ tagFile K c (count s) old
+  claimed : (f marks rest : List ℕ) (names : ℕ) (said : Answer) → f ≡ tagFile K c (count s) old
       → marks ≡ marksOf (named (familyOf (codeOf f)) (agrees K s f)) (count s) ++ rest
+      → names ≡ numberNamed (familyOf (codeOf f)) (agrees K s f) (count s)
       → said ≡ answer (familyOf (codeOf f)) (agrees K s f) (count s)
       → Detects (familyOf c .limit) (count s) (NoRowCancels (familyOf c) K old (item s) (count s)) (changed old (item s)) (marked marks) said
-  claimed f marks rest said ef em es =
+      × (names ≡ tally.count (marked marks) (count s))
+  unfolding numberNamed
+  claimed f marks rest names said ef em en es =
       let F = familyOf c in
       let A = agrees K s (tagFile K c (count s) old) in
       let e = code-is K B c (count s) fit old bytes in
       let m = em ∙ ap (λ (x : List ℕ). marksOf (named (familyOf (codeOf x)) (agrees K s x)) (count s) ++ rest) ef
       ∙ ap (λ (x : ℕ). marksOf (named (familyOf x) A) (count s) ++ rest) e in
       let a = es ∙ ap (λ (x : List ℕ). answer (familyOf (codeOf x)) (agrees K s x) (count s)) ef ∙ ap (λ (x : ℕ). answer (familyOf x) A (count s)) e in
-      subst (λ (x : Answer). Detects (F .limit) (count s) (NoRowCancels F K old (item s) (count s)) (changed old (item s)) (marked marks) x) (sym a)
-      (detects-as (F .limit) (count s) _ _ (changed old (item s)) (named F A) (marked marks) (answer F A (count s)) loud
-      (marked-is (named F A) (count s) rest marks m)
-      (detects F (lawful c (fit-code K B c (count s) fit old bytes)) (count s) (fit-count K B c (count s) fit old bytes) (changed old (item s)) A quiet))
+      let k = en ∙ ap (λ (x : List ℕ). numberNamed (familyOf (codeOf x)) (agrees K s x) (count s)) ef ∙ ap (λ (x : ℕ). numberNamed (familyOf x) A (count s)) e in (
+        subst (λ (x : Answer). Detects (F .limit) (count s) (NoRowCancels F K old (item s) (count s)) (changed old (item s)) (marked marks) x) (sym a)
+            (detects-as (F .limit) (count s) _ _ (changed old (item s)) (named F A) (marked marks) (answer F A (count s)) loud
+            (marked-is (named F A) (count s) rest marks m)
+            (detects F (lawful c (fit-code K B c (count s) fit old bytes)) (count s) (fit-count K B c (count s) fit old bytes) (changed old (item s)) A quiet)),
+        k ∙ sym (count-ext (marked marks) (named F A) (count s) (marked-is (named F A) (count s) rest marks m)),
+      )
 
 -- a file that says a code says the code that it was laid out for
 code-says : (K : Keys) (c n : ℕ) (items : ℕ → List ℕ) → codeOf (tagFile K c n items) ≡ c
@@ -125,12 +130,13 @@ unfolding tagFile fileOf sealed body header tagPrefix codeOf
 code-says K c n items = refl
 
 -- of every report that is not refused
-pub claim : (keys s f marks rest : List ℕ) (room : ℕ) (said : Answer) → Bytes keys → Reportable keys s f room
+pub claim : (keys s f marks rest : List ℕ) (room names : ℕ) (said : Answer) → Bytes keys → Reportable keys s f room
     → marks ≡ marksOf (named (familyOf (codeOf f)) (agrees (keysIn keys) s f)) (count s) ++ rest
+    → names ≡ numberNamed (familyOf (codeOf f)) (agrees (keysIn keys) s f) (count s)
     → said ≡ answer (familyOf (codeOf f)) (agrees (keysIn keys) s f) (count s)
-    → Claim keys s f marks said
-claim keys s f marks rest room said b R em es c old bytes ef =
+    → Claim keys s f marks names said
+claim keys s f marks rest room names said b R em en es c old bytes ef =
     let q = R .files in
     let ec : codeOf f ≡ c = ap codeOf ef ∙ code-says (keysIn keys) c (count s) old in
     let fit : countFits c (count s) ≡ true = ap₂ countFits (sym ec) (q .counts) ∙ q .file .fits in
-    claimed (keysIn keys) (key-blocks keys b (q .keys48)) s c fit old bytes f marks rest said ef em es
+    claimed (keysIn keys) (key-blocks keys b (q .keys48)) s c fit old bytes f marks rest names said ef em en es

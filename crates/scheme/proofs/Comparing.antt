@@ -1,5 +1,5 @@
 -- The rows that the code compares agree as Report's definition says, and so does all that is decoded from them.
-use mathlib.Core.Path.{_≡_, refl, sym, ap, ap₂, _∙_}
+use mathlib.Core.Path.{_≡_, refl, ap, ap₂, _∙_}
 use mathlib.Core.Bool.{Bool}
 use mathlib.Core.List.{List, [], _∷_, _++_}
 use Prim.Native.Nat.{ℕ, zero, suc, _≤_}
@@ -7,7 +7,6 @@ use native.Mathlib.Omega.{arith}
 use lib.ListN.{drop}
 use Rattle.cipher.specs.Block.{same}
 use Rattle.incidence.specs.Count.{bit}
-use Rattle.incidence.specs.Family.{Family}
 use Rattle.incidence.specs.Sum.{rowSum, had}
 use Rattle.incidence.specs.Report.{named, numberNamed, disagreeing, answer}
 use Rattle.incidence.specs.declared.Answer.{Answer}

@@ -4,3 +4,5 @@ pub mod Filing
 pub mod Comparing
 pub mod Unaltered
 pub mod Claiming
+pub mod Guarantees
+pub mod StarredCards

@@ -1,23 +1,22 @@
 -- An unaltered tag file: what it says, that it is accepted, and that its tags give back the row sums of the items it was made of.
-use mathlib.Core.Path.{_≡_, refl, sym, ap, ap₂, _∙_, subst}
+use mathlib.Core.Path.{_≡_, refl, sym, ap, _∙_}
 use mathlib.Core.Bool.{Bool, true, false}
-use mathlib.Core.List.{List, [], _∷_, _++_, append-nil}
+use mathlib.Core.List.{List, [], append-nil}
 use Prim.Native.Nat.{ℕ, zero, suc, _-_, _*_, _≤_, _<_}
 use native.Mathlib.Omega.{arith}
 use lib.Dec.{leb}
 use lib.ListN.{length, drop}
 use borrow.Author.Tests.{leb-true}
-use Rattle.cipher.specs.Block.{if_then_else_, Bytes, Block, _⊕_, zeros, slot, listOf}
+use Rattle.cipher.specs.Block.{if_then_else_, Bytes, Block, _⊕_, slot, listOf}
 use Rattle.cipher.proofs.Xor.{⊕-block, zeros-block, append-bytes, take-bytes, drop-bytes}
 use Rattle.cipher.proofs.Slots.{slot-length, listOf-length, slot-listOf}
 use Rattle.cipher.proofs.Laws.{cmac-length}
-use Rattle.incidence.specs.Family.{Family}
 use Rattle.incidence.specs.Sum.{sumOver, rowSum, had}
 use Rattle.incidence.proofs.Sums.{Values, had-ext, had-rowSum}
 use Rattle.sizes.specs.Sizes.{known, familyOf}
 use Rattle.sizes.proofs.Laws.{lawful}
 use Rattle.files.specs.Refusals.{none}
-use Rattle.files.specs.TagFile.{body, sealed, codeOf, countOf, tagsIn, countFits, refuse6, refuse20, Written}
+use Rattle.files.specs.TagFile.{codeOf, countOf, tagsIn, countFits, refuse6, refuse20, Written}
 use Rattle.files.proofs.Passing.{and-left, and-right}
 use Rattle.files.proofs.Accepted.{code-back, count-back, tags-back, written-accepted}
 use Rattle.keyed.specs.Keyed.{itemHash, tagOf, sumOfTag}
@@ -91,7 +90,7 @@ module _ (K : Keys) (B : KeyBlocks K) (c n : ℕ) (fit : countFits c n ≡ true)
   unfolding tagFile fileOf tags
   count-is = count-back (K .seal) (B .seal .long) c n tags fit tags-long
 
-  tags-are : tagsIn (tagFile K c n items) ≡ tags
+  pub tags-are : tagsIn (tagFile K c n items) ≡ listOf (λ k. tagOf (K .tag) (suc k) (tagSum K c items n (suc k))) (familyOf c .tags)
   unfolding tagFile fileOf tags
   tags-are = tags-back (K .seal) (B .seal .long) c n tags fit tags-long
 

@@ -107,6 +107,10 @@ replacedSum keys f j old new k =
     then (sumTagged keys f k ⊕ itemHash (keys .item) j old) ⊕ itemHash (keys .item) j new
     else sumTagged keys f k
 
+-- items with the bytes of item j replaced
+unfoldable pub replacedItem : (ℕ → List ℕ) → ℕ → List ℕ → ℕ → List ℕ
+replacedItem items j new i = if eqb i j then new else items i
+
 -- "and reseals into a second buffer"
 unfoldable pub replaceWrites : List ℕ → List ℕ → ℕ → List ℕ → List ℕ → List ℕ → List ℕ
 replaceWrites keys f j old new out =

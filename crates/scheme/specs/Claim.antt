@@ -7,6 +7,7 @@ use Prim.Native.Nat.{ℕ, _-_, _≤_}
 use lib.Dec.{eqb}
 use lib.ListN.{getD}
 use Rattle.cipher.specs.Block.{Bytes, same}
+use Rattle.incidence.specs.Count as tally
 use Rattle.incidence.specs.Family.{Family}
 use Rattle.incidence.specs.Sum.{rowSum}
 use Rattle.incidence.specs.Detection.{Detects}
@@ -38,9 +39,11 @@ NoRowCancels F keys old new n = (i : ℕ) → RowCancels F keys old new n i → 
 unfoldable pub marked : List ℕ → ℕ → Bool
 marked marks j = eqb (getD marks (j - 1) 0) 1
 
--- Demand 3, of a report with these keys, on message s and tag file f, that wrote these marks and gave this answer: for every size code
--- and all old items of the same number, where f is the unaltered tag file of the old items under these keys.
-abbrev pub Claim : List ℕ → List ℕ → List ℕ → List ℕ → Answer → Type 0
-Claim keys s f marks said =
+-- Demand 3, of a report with these keys, on message s and tag file f, that wrote these marks, returned this number of named items and
+-- gave this answer: for every size code and all old items of the same number, where f is the unaltered tag file of the old items under
+-- these keys. The number returned is that of the items named.
+abbrev pub Claim : List ℕ → List ℕ → List ℕ → List ℕ → ℕ → Answer → Type 0
+Claim keys s f marks names said =
     (c : ℕ) (old : ℕ → List ℕ) → ((j : ℕ) → 1 ≤ j → j ≤ count s → Bytes (old j)) → f ≡ tagFile (keysIn keys) c (count s) old
     → Detects (familyOf c .limit) (count s) (NoRowCancels (familyOf c) (keysIn keys) old (item s) (count s)) (changed old (item s)) (marked marks) said
+    × (names ≡ tally.count (marked marks) (count s))

@@ -41,12 +41,12 @@ pub fn tag(keys: &[u8], code: u64, message: &[u8], out: &mut [u8]) -> Refusal
     ensures refused { λ r. ⌜ r ≡ tagRefusal (now (keys .entry)) code (now (message .entry)) (length (now (out .entry))) ⌝ }
     ensures written { λ _. ⌜ now (out .exit) ≡ tagWrites (now (keys .entry)) code (now (message .entry)) (now (out .entry)) ⌝ }
 {
-    let refused = checks::tag_refusal(keys, code, message, out.len());
-    if refused.number != 0 {
-        return refused;
+    let refusal = checks::tag_refusal(keys, code, message, out.len());
+    if refusal.number != 0 {
+        return refusal;
     }
     write_tag_file(keys, code, message, out);
-    refused
+    refusal
 }
 
 // What Verify says: its refusal, with number 0 where there is none, and yes or no.
@@ -85,9 +85,10 @@ pub fn verify(keys: &[u8], message: &[u8], file: &[u8]) -> Verified
             yes: false,
         };
     }
+    let yes = tags_equal(keys, message, file);
     Verified {
         refused: refused,
-        yes: tags_equal(keys, message, file),
+        yes: yes,
     }
 }
 
@@ -125,12 +126,12 @@ pub fn replace(keys: &[u8], file: &[u8], j: u64, old: &[u8], new: &[u8], out: &m
     ensures refused { λ r. ⌜ r ≡ replaceRefusal (now (keys .entry)) (now (file .entry)) j (now (old .entry)) (now (new .entry)) (length (now (out .entry))) ⌝ }
     ensures written { λ _. ⌜ now (out .exit) ≡ replaceWrites (now (keys .entry)) (now (file .entry)) j (now (old .entry)) (now (new .entry)) (now (out .entry)) ⌝ }
 {
-    let refused = checks::replace_refusal(keys, file, j, old, new, out.len());
-    if refused.number != 0 {
-        return refused;
+    let r = checks::replace_refusal(keys, file, j, old, new, out.len());
+    if r.number != 0 {
+        return r;
     }
     write_replaced(keys, file, j, old, new, out);
-    refused
+    r
 }
 
 // What Report says: its refusal, with number 0 where there is none, its answer, how many items it named, and how many rows disagree.
@@ -170,7 +171,7 @@ pub fn report(keys: &[u8], message: &[u8], file: &[u8], marks: &mut [u8]) -> Rep
     ensures answer { λ r. ⌜ r .answer ≡ reportAnswer (now (keys .entry)) (now (message .entry)) (now (file .entry)) (now (marks .entry)) ⌝ }
     ensures named { λ r. ⌜ r .named ≡ reportNamed (now (keys .entry)) (now (message .entry)) (now (file .entry)) (now (marks .entry)) ⌝ }
     ensures rows { λ r. ⌜ r .rows ≡ reportRows (now (keys .entry)) (now (message .entry)) (now (file .entry)) (now (marks .entry)) ⌝ }
-    ensures detection { λ r. ⌜ (r .refused .number ≡ 0 → Claim (now (keys .entry)) (now (message .entry)) (now (file .entry)) (now (marks .exit)) (r .answer)) ⌝ }
+    ensures detection { λ r. ⌜ (r .refused .number ≡ 0 → Claim (now (keys .entry)) (now (message .entry)) (now (file .entry)) (now (marks .exit)) (r .named) (r .answer)) ⌝ }
 {
     let refused = checks::report_refusal(keys, message, file, marks.len());
     if refused.number != 0 {

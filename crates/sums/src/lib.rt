@@ -2,10 +2,9 @@
 use cipher::block;
 ghost use mathlib.Core.Path.{_≡_};
 ghost use mathlib.Core.Bool.{true};
-ghost use Prim.Native.Nat.{ℕ, _*_, _≤_};
+ghost use Prim.Native.Nat.{_*_, _≤_};
 ghost use Rattle.incidence.specs.Sum.{sumOf, had};
 ghost use lib.ListN.{length};
-ghost use Rattle.incidence.specs.Family.{Family};
 ghost use Rattle.sizes.specs.Sizes.{known, familyOf};
 ghost use Rattle.sums.specs.Adding.{sumIn, Holds, Added, addedAt, rowFrom};
 

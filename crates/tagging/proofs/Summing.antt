@@ -1,11 +1,11 @@
 -- A walk over items adds each value to the sums of its rows: after k items, the sums are those of the first k.
 use mathlib.Core.Path.{_≡_, refl, sym, ap, ap₂, _∙_, subst}
-use mathlib.Core.Bool.{Bool, true, false}
-use mathlib.Core.List.{List, [], _∷_, _++_, append-assoc}
+use mathlib.Core.Bool.{Bool}
+use mathlib.Core.List.{List, _++_}
 use Prim.Native.Nat.{ℕ, zero, suc, _+_, _-_, _*_, _≤_, _<_}
 use native.Mathlib.Omega.{arith}
 use native.Mathlib.Numerals.{add-one}
-use lib.ListN.{length, take, drop, length-take}
+use lib.ListN.{length, take, drop}
 use lib.Seq.{take-add}
 use lib.ListN.{take-append-drop}
 use Rattle.cipher.specs.Block.{if_then_else_, _⊕_, zeros, slot, listOf}
@@ -15,10 +15,9 @@ use Rattle.files.specs.declared.Refusal.{Refusal}
 use Rattle.files.specs.Refusals.{none}
 use Rattle.files.specs.Message.{number16, count, behind, start, size, item, refuse5}
 use Rattle.files.proofs.Messages.{Fits, item-fits}
-use Rattle.keyed.specs.Keyed.{itemHash}
 use Rattle.sums.specs.Adding.{sumIn, Holds, Added}
 use Rattle.tagging.specs.declared.Keys.{Keys}
-use Rattle.tagging.specs.Tagging.{keysIn, hashes}
+use Rattle.tagging.specs.Tagging.{keysIn}
 
 -- ---- the walk
 

@@ -47,7 +47,7 @@ returns-2 c =
             f .1 .1 .0 ∙ if-done _ _ e _ _ t,
             (
               f .1 .1 .1 ∙ if-done _ _ e _ _ t,
-              λ z. claim (d .args .keys .now) (d .args .message .now) (d .args .file .now) _ _ _ _ b p (f .0) (f .1 .0),
+              λ z. claim (d .args .keys .now) (d .args .message .now) (d .args .file .now) _ _ _ _ _ b p (f .0) (f .1 .1 .0) (f .1 .0),
             ),
           ),
         ),

@@ -1,5 +1,5 @@
 -- Refused, or the file (Filing).
-use mathlib.Core.Path.{sym, _∙_, refl, ap}
+use mathlib.Core.Path.{sym, _∙_, ap}
 use Rattle.files.specs.declared.Refusal.{Refusal}
 use Rattle.scheme.specs.Calls.{tagWrites}
 use Rattle.scheme.proofs.Filing.{if-done, if-refused}

@@ -1,0 +1,172 @@
+-- What follows from the definitions of the calls, for a reader who wants to know what they are good for: Tag's file is accepted and
+-- verified, a report against an unaltered file is not refused, Replace is tagging afresh, and demand 3 is met by no report that names
+-- every item, none, or says "beyond" of an unchanged message.
+use mathlib.Core.Path.{_≡_, refl, sym, ap, ap₂, _∙_}
+use mathlib.Core.Bool.{Bool, true, false}
+use mathlib.Core.List.{List, [], _∷_, _++_}
+use mathlib.Core.Logic.{_↔_}
+use Prim.Native.Nat.{ℕ, _≤_, _<_}
+use native.Mathlib.Omega.{arith}
+use lib.ListN.{length, drop}
+use borrow.Author.Tests.{eq-eqb, ne-eqb, le-leb}
+use Rattle.cipher.specs.Block.{if_then_else_, Bytes, _⊕_, same}
+use Rattle.cipher.proofs.Xor.{same-true, same-eq, take-bytes, drop-bytes, ⊕-assoc}
+use Rattle.incidence.specs.Count as tally
+use Rattle.incidence.specs.Family.{Family}
+use Rattle.incidence.specs.Sum.{rowSum}
+use Rattle.incidence.specs.Report.{number}
+use Rattle.incidence.specs.declared.Answer.{Answer}
+use Rattle.incidence.specs.declared.Answer.the-variants.{Intact, Beyond}
+use Rattle.incidence.proofs.Booleans.{not-both}
+use Rattle.incidence.proofs.Counting.{Found, found}
+use Rattle.incidence.proofs.Sums.{rowSum-same, rowSum-change}
+use Rattle.sizes.specs.Sizes.{familyOf}
+use Rattle.files.specs.declared.Refusal.{Refusal}
+use Rattle.files.specs.Refusals.{none, first}
+use Rattle.files.specs.Message.{count, item, start, size, refuse3, refuse5}
+use Rattle.files.specs.TagFile.{fileSize, codeOf, countOf, tagsIn, countFits, refuse6, refuse20}
+use Rattle.files.specs.Handed.{refuse1, refuse7}
+use Rattle.files.proofs.Passing.{first-later, unless-true, and-true}
+use Rattle.keyed.specs.Keyed.{itemHash}
+use Rattle.tagging.specs.Tagging.{keysIn, hashes, tagSum, fileOf, tagFile}
+use Rattle.scheme.specs.Calls.{refuse21, tagRefusal, verifyRefusal, tagsFor, verifyYes, reportRefusal, sumTagged, replaceRefusal, replacedSum, replacedItem, replaceWrites}
+use Rattle.scheme.specs.Claim.{changed, NoRowCancels, marked, Claim}
+use Rattle.scheme.proofs.Checking.{taggable}
+use Rattle.scheme.proofs.Filing.{file-same, if-done}
+use Rattle.scheme.proofs.Unaltered.{key-blocks, hashes-long, code-is, count-is, tags-are, accepted, sums-back}
+
+-- ---- nothing is refused
+
+first-none : (r : Refusal) → r ≡ none → first (r ∷ []) ≡ none
+unfolding first
+first-none r e = first-later r [] e
+
+-- keys, message and file that pass each check by itself
+verify-passes : (keys s f : List ℕ) → length keys ≡ 48 → refuse3 s ≡ none → refuse5 s ≡ none → refuse6 f ≡ none → refuse20 (keysIn keys .seal) f ≡ none
+    → count s ≡ countOf f → verifyRefusal keys s f ≡ none
+unfolding verifyRefusal refuse1 refuse21
+verify-passes keys s f h a b d e g =
+    first-later (refuse1 (length keys)) _ (unless-true _ 1 0 (eq-eqb (length keys) 48 h))
+    ∙ first-later (refuse3 s) _ a ∙ first-later (refuse5 s) _ b ∙ first-later (refuse6 f) _ d ∙ first-later (refuse20 (keysIn keys .seal) f) _ e
+    ∙ first-none (refuse21 s f) (unless-true _ 21 0 (eq-eqb (count s) (countOf f) g))
+
+-- Demand 3 is not empty: a report with the keys of an unaltered file, on a message of the same count that is not refused itself, and with
+-- room for the marks, is not refused.
+pub report-passes : (keys s : List ℕ) (c room : ℕ) (old : ℕ → List ℕ) → Bytes keys → length keys ≡ 48 → refuse3 s ≡ none → refuse5 s ≡ none
+    → countFits c (count s) ≡ true → ((j : ℕ) → 1 ≤ j → j ≤ count s → Bytes (old j)) → count s ≤ room
+    → reportRefusal keys s (tagFile (keysIn keys) c (count s) old) room ≡ none
+unfolding reportRefusal refuse7
+report-passes keys s c room old b h p q fit bytes r =
+    let K = keysIn keys in
+    let B = key-blocks keys b h in
+    let a = accepted K B c (count s) fit old bytes in
+    first-later _ _ (verify-passes keys s (tagFile K c (count s) old) h p q (a .0) (a .1) (sym (count-is K B c (count s) fit old bytes)))
+    ∙ first-none (refuse7 (count s) room) (unless-true _ 7 0 (le-leb (count s) room r))
+
+-- ---- Tag and Verify
+
+item-bytes : (s : List ℕ) → Bytes s → (j : ℕ) → Bytes (item s j)
+unfolding item
+item-bytes s b j = take-bytes (size s j) (drop (start s j) s) (drop-bytes (start s j) s b)
+
+-- where Tag does not refuse, Verify accepts its file and says yes
+pub tag-verifies : (keys : List ℕ) (c : ℕ) (s : List ℕ) (room : ℕ) → Bytes keys → Bytes s → tagRefusal keys c s room ≡ none
+    → (verifyRefusal keys s (tagFile (keysIn keys) c (count s) (item s)) ≡ none) × (verifyYes keys s (tagFile (keysIn keys) c (count s) (item s)) ≡ true)
+unfolding verifyYes tagsFor countFits
+tag-verifies keys c s room b m e =
+    let t = taggable keys c s room none (sym e) refl in
+    let K = keysIn keys in
+    let B = key-blocks keys b (t .keys48) in
+    let fit = and-true _ _ (t .code) (and-true _ _ (le-leb 1 (count s) (t .low)) (le-leb (count s) (familyOf c .items) (t .high))) in
+    let bytes : (j : ℕ) → 1 ≤ j → j ≤ count s → Bytes (item s j) = λ j l u. item-bytes s m j in
+    let f = tagFile K c (count s) (item s) in
+    let a = accepted K B c (count s) fit (item s) bytes in
+    let v = verify-passes keys s f (t .keys48) (t .message .head) (t .message .whole) (a .0) (a .1) (sym (count-is K B c (count s) fit (item s) bytes)) in (
+      v,
+      sym (if-done none (verifyRefusal keys s f) (sym v) _ _ refl)
+          ∙ same-eq _ _ (ap (λ (x : ℕ). tagsFor K x s) (code-is K B c (count s) fit (item s) bytes) ∙ sym (tags-are K B c (count s) fit (item s) bytes)),
+    )
+
+-- where Verify does not refuse, it says yes exactly when the message's tags equal the file's
+pub verify-yes : (keys s f : List ℕ) → verifyRefusal keys s f ≡ none → (verifyYes keys s f ≡ true) ↔ (tagsFor (keysIn keys) (codeOf f) s ≡ tagsIn f)
+unfolding verifyYes
+verify-yes keys s f e =
+    let d = if-done none (verifyRefusal keys s f) (sym e) (same (tagsFor (keysIn keys) (codeOf f) s) (tagsIn f)) false refl in
+    ((λ y. same-true _ _ (d ∙ y)), (λ y. sym d ∙ same-eq _ _ y))
+
+-- ---- Replace
+
+module _ (keys : List ℕ) (b : Bytes keys) (h : length keys ≡ 48) (c n : ℕ) (fit : countFits c n ≡ true) (items : ℕ → List ℕ)
+    (bytes : (i : ℕ) → 1 ≤ i → i ≤ n → Bytes (items i)) (j : ℕ) (low : 1 ≤ j) (high : j ≤ n) (new : List ℕ) where
+  -- the hash of item j alone is another
+  new-there : hashes (keysIn keys) (replacedItem items j new) j ≡ itemHash (keysIn keys .item) j new
+  unfolding hashes replacedItem
+  new-there = ap (λ (t : Bool). itemHash (keysIn keys .item) j (if t then new else items j)) (eq-eqb j j refl)
+
+  others-stay : (i : ℕ) → (i ≡ j → ⊥) → hashes (keysIn keys) items i ≡ hashes (keysIn keys) (replacedItem items j new) i
+  unfolding hashes replacedItem
+  others-stay i ne = ap (λ (t : Bool). itemHash (keysIn keys .item) i (if t then new else items i)) (sym (ne-eqb i j ne))
+
+  -- a row's sum with both hashes added where the row holds item j is its sum afresh
+  row-afresh : (F : Family) (i : ℕ) (t : Bool) → F .on i j ≡ t
+      → (if t then (rowSum F (hashes (keysIn keys) items) n i ⊕ itemHash (keysIn keys .item) j (items j)) ⊕ itemHash (keysIn keys .item) j new else rowSum F (hashes (keysIn keys) items) n i)
+      ≡ rowSum F (hashes (keysIn keys) (replacedItem items j new)) n i
+  unfolding hashes
+  row-afresh F i true e =
+      let K = keysIn keys in
+      let B = key-blocks keys b h in
+      ⊕-assoc (rowSum F (hashes K items) n i) (itemHash (K .item) j (items j)) (itemHash (K .item) j new)
+      ∙ ap (λ (x : List ℕ). rowSum F (hashes K items) n i ⊕ (itemHash (K .item) j (items j) ⊕ x)) (sym new-there)
+      ∙ sym (rowSum-change F (hashes K items) (hashes K (replacedItem items j new)) n j i (hashes-long K (B .item .long) items)
+      (hashes-long K (B .item .long) (replacedItem items j new)) low high e (λ k l u ne. others-stay k ne))
+  row-afresh F i false e =
+      let K = keysIn keys in
+      let B = key-blocks keys b h in
+      rowSum-same F (hashes K items) (hashes-long K (B .item .long) items) n (hashes K (replacedItem items j new)) i
+      (λ k l u o. others-stay k (λ q. not-both (F .on i k) o (ap (F .on i) q ∙ e)))
+
+  sums-replaced : (k : ℕ) → 1 ≤ k → k ≤ familyOf c .tags
+      → replacedSum (keysIn keys) (tagFile (keysIn keys) c n items) j (items j) new k ≡ tagSum (keysIn keys) c (replacedItem items j new) n k
+  unfolding replacedSum tagSum
+  sums-replaced k l u =
+      let K = keysIn keys in
+      let B = key-blocks keys b h in
+      let F = familyOf c in
+      let f = tagFile K c n items in
+      ap (λ (x : ℕ). if familyOf x .on (familyOf x .rowOfTag k) j then (sumTagged K f k ⊕ itemHash (K .item) j (items j)) ⊕ itemHash (K .item) j new else sumTagged K f k)
+      (code-is K B c n fit items bytes)
+      ∙ ap (λ (x : List ℕ). if F .on (F .rowOfTag k) j then (x ⊕ itemHash (K .item) j (items j)) ⊕ itemHash (K .item) j new else x) (sums-back K B c n fit items bytes k l u)
+      ∙ row-afresh F (F .rowOfTag k) (F .on (F .rowOfTag k) j) refl
+
+  -- "On an unaltered sheet, with the keys it was made with, it equals tagging afresh when the old card is the one tagged."
+  pub replace-afresh : (out : List ℕ) → replaceRefusal keys (tagFile (keysIn keys) c n items) j (items j) new (length out) ≡ none
+      → replaceWrites keys (tagFile (keysIn keys) c n items) j (items j) new out ≡ tagFile (keysIn keys) c n (replacedItem items j new) ++ drop (fileSize c) out
+  unfolding replaceWrites tagFile
+  replace-afresh out e =
+      let K = keysIn keys in
+      let B = key-blocks keys b h in
+      let f = tagFile K c n items in
+      sym (if-done none (replaceRefusal keys f j (items j) new (length out)) (sym e) _ _ refl)
+      ∙ ap₂ (λ (x y : ℕ). fileOf K x y (replacedSum K f j (items j) new) ++ drop (fileSize x) out) (code-is K B c n fit items bytes) (count-is K B c n fit items bytes)
+      ∙ ap (λ (x : List ℕ). x ++ drop (fileSize c) out) (file-same K c n (replacedSum K f j (items j) new) (tagSum K c (replacedItem items j new) n) sums-replaced)
+
+-- ---- what demand 3 rules out, of a report against the unaltered file of the old items
+
+module _ (keys s f marks : List ℕ) (names : ℕ) (said : Answer) (D : Claim keys s f marks names said) (c : ℕ) (old : ℕ → List ℕ)
+    (bytes : (j : ℕ) → 1 ≤ j → j ≤ count s → Bytes (old j)) (ef : f ≡ tagFile (keysIn keys) c (count s) old) where
+  -- where at most d items changed and one did not, not every item is named
+  pub never-all-named : tally.count (changed old (item s)) (count s) ≤ familyOf c .limit → (j : ℕ) → 1 ≤ j → j ≤ count s → changed old (item s) j ≡ false
+      → ((i : ℕ) → 1 ≤ i → i ≤ count s → marked marks i ≡ true) → ⊥
+  never-all-named few j l u same all = not-both (marked marks j) (all j l u) (D c old bytes ef .0 .spares few j l u same)
+
+  -- where an item changed and no row cancels, some item is named
+  pub never-none-named : NoRowCancels (familyOf c) (keysIn keys) old (item s) (count s) → 0 < tally.count (changed old (item s)) (count s)
+      → ((i : ℕ) → 1 ≤ i → i ≤ count s → marked marks i ≡ false) → ⊥
+  never-none-named free some all =
+      let w : Found (changed old (item s)) (count s) = found (changed old (item s)) (count s) some in
+      not-both (marked marks (w .at)) (D c old bytes ef .0 .finds free (w .at) (w .low) (w .high) (w .passes)) (all (w .at) (w .low) (w .high))
+
+  -- an unchanged message is not "beyond"
+  pub never-beyond : NoRowCancels (familyOf c) (keysIn keys) old (item s) (count s) → tally.count (changed old (item s)) (count s) ≡ 0 → said ≡ Beyond → ⊥
+  never-beyond free z b =
+      let e : number Beyond ≡ number Intact = ap number (sym b ∙ D c old bytes ef .0 .intact free .1 z) in omega arith
