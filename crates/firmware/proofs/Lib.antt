@@ -1,0 +1,2 @@
+-- The laws about the numbers that the functions for C return.
+pub mod Packing

@@ -1,0 +1,133 @@
+-- What was packed is read back, and what each function packs.
+use mathlib.Core.Path.{_≡_, refl, sym, ap, ap₂, _∙_, subst}
+use mathlib.Core.Bool.{Bool, true, false}
+use mathlib.Core.List.{List}
+use Prim.Native.Nat.{ℕ, _+_, _*_, _/_, _%_, _≤_, _<_}
+use native.Mathlib.Omega.{arith}
+use lib.Dec.{eqb}
+use lib.ListN.{length}
+use borrow.Author.Tests.{eq-eqb, ne-eqb, eqb-true, eqb-false}
+use Rattle.cipher.specs.Block.{if_then_else_}
+use Rattle.incidence.specs.Count.{bit}
+use Rattle.incidence.specs.Report.{named, numberNamed, number}
+use Rattle.incidence.specs.declared.Answer.{Answer}
+use Rattle.incidence.specs.declared.Answer.the-variants.{Intact, Named, Beyond}
+use Rattle.incidence.proofs.Counting.{count-most}
+use Rattle.sizes.specs.Sizes.{familyOf}
+use Rattle.sizes.proofs.Laws.{items-few}
+use Rattle.files.specs.declared.Refusal.{Refusal}
+use Rattle.files.specs.Message.{count}
+use Rattle.files.specs.TagFile.{codeOf}
+use Rattle.tagging.specs.Tagging.{keysIn}
+use Rattle.scheme.specs.Calls.{reportRefusal, agrees, reportNamed}
+use Rattle.scheme.specs.Claim.{Claim}
+use Rattle.scheme.proofs.Checking.{Reportable, reportable, file-count}
+use Rattle.scheme.proofs.Filing.{if-done}
+use Rattle.files.specs.Refusals.{passes}
+use Rattle.firmware.specs.Packed.{packed, packedYes, packedReport, numberIn, placeIn, yesIn, answerIn, namedIn, rowsIn}
+
+-- ---- refusals
+
+module _ (r : Refusal) (small : r .number < 256) where
+  pub number-back : numberIn (packed r) ≡ r .number
+  unfolding numberIn packed
+  number-back = omega arith
+
+  pub place-back : r .place < 16777216 → placeIn (packed r) ≡ r .place
+  unfolding placeIn packed
+  place-back h = omega arith
+
+-- ---- Verify and Report, done or refused
+
+pub number-small : (a : Answer) → number a ≤ 2
+number-small Intact = omega arith
+number-small Named = omega arith
+number-small Beyond = omega arith
+
+-- the number tells the answer
+pub number-tells : (a b : Answer) → number a ≡ number b → a ≡ b
+number-tells Intact Intact e = refl
+number-tells Intact Named e = absurd (omega arith)
+number-tells Intact Beyond e = absurd (omega arith)
+number-tells Named Intact e = absurd (omega arith)
+number-tells Named Named e = refl
+number-tells Named Beyond e = absurd (omega arith)
+number-tells Beyond Intact e = absurd (omega arith)
+number-tells Beyond Named e = absurd (omega arith)
+number-tells Beyond Beyond e = refl
+
+done : {A : Type 0} (r : Refusal) (a b : A) → r .number ≡ 0 → a ≡ (if passes r then a else b)
+done r a b h = ap (λ (t : Bool). if t then a else b) (sym (eq-eqb (r .number) 0 h))
+
+left : {A : Type 0} (r : Refusal) (a b : A) → (r .number ≡ 0 → ⊥) → b ≡ (if passes r then a else b)
+left r a b h = ap (λ (t : Bool). if t then a else b) (sym (ne-eqb (r .number) 0 h))
+
+pub yes-done : (r : Refusal) (t : Bool) → r .number ≡ 0 → 256 * bit t ≡ packedYes r t
+unfolding packedYes
+yes-done r t h = done r (256 * bit t) (packed r) h
+
+pub yes-refused : (r : Refusal) (t : Bool) → (r .number ≡ 0 → ⊥) → packed r ≡ packedYes r t
+unfolding packedYes
+yes-refused r t h = left r (256 * bit t) (packed r) h
+
+module _ (r : Refusal) (said : Answer) (names rows : ℕ) where
+  pub report-done : r .number ≡ 0 → 256 * number said + 65536 * (names % 65536) + 4294967296 * (rows % 65536) ≡ packedReport r said names rows
+  unfolding packedReport
+  report-done h = done r (256 * number said + 65536 * (names % 65536) + 4294967296 * (rows % 65536)) (packed r) h
+
+  pub report-refused : (r .number ≡ 0 → ⊥) → packed r ≡ packedReport r said names rows
+  unfolding packedReport
+  report-refused h = left r (256 * number said + 65536 * (names % 65536) + 4294967296 * (rows % 65536)) (packed r) h
+
+  -- number 0 is read exactly where there is no refusal
+  pub report-passes : r .number < 256 → numberIn (packedReport r said names rows) ≡ 0 → r .number ≡ 0
+  report-passes small e = go (eqb (r .number) 0) refl
+    where
+      go : (t : Bool) → eqb (r .number) 0 ≡ t → r .number ≡ 0
+      go true q = eqb-true (r .number) 0 q
+      go false q = sym (number-back r small) ∙ ap numberIn (report-refused (eqb-false (r .number) 0 q)) ∙ e
+
+  pub answer-back : r .number ≡ 0 → answerIn (packedReport r said names rows) ≡ number said
+  unfolding answerIn
+  answer-back h = let l = number-small said in ap (λ (w : ℕ). w / 256 % 256) (sym (report-done h)) ∙ omega arith
+
+  pub named-back : r .number ≡ 0 → names < 65536 → namedIn (packedReport r said names rows) ≡ names
+  unfolding namedIn
+  named-back h s = let l = number-small said in ap (λ (w : ℕ). w / 65536 % 65536) (sym (report-done h)) ∙ omega arith
+
+  pub rows-back : r .number ≡ 0 → rows < 65536 → rowsIn (packedReport r said names rows) ≡ rows
+  unfolding rowsIn
+  rows-back h s = let l = number-small said in ap (λ (w : ℕ). w / 4294967296 % 65536) (sym (report-done h)) ∙ omega arith
+
+pub yes-back : (r : Refusal) (t : Bool) → r .number ≡ 0 → yesIn (packedYes r t) ≡ bit t
+unfolding yesIn
+yes-back r t h = ap (λ (w : ℕ). w / 256 % 2) (sym (yes-done r t h)) ∙ go t
+  where
+    go : (t : Bool) → 256 * bit t / 256 % 2 ≡ bit t
+    go true = refl
+    go false = refl
+
+pub packed-same : (r r′ : Refusal) (a a′ : Answer) (n n′ m m′ : ℕ) → r ≡ r′ → a ≡ a′ → n ≡ n′ → m ≡ m′ → packedReport r a n m ≡ packedReport r′ a′ n′ m′
+packed-same r r′ a a′ n n′ m m′ er ea en em = λ i. packedReport (er i) (ea i) (en i) (em i)
+
+-- ---- demand 3 as C reads it
+
+-- few enough to fit their bits
+names-few : (keys s f out : List ℕ) → Reportable keys s f (length out) → numberNamed (familyOf (codeOf f)) (agrees (keysIn keys) s f) (count s) < 65536
+unfolding numberNamed
+names-few keys s f out R =
+    let q = R .files in
+    omega (arith, count-most (named (familyOf (codeOf f)) (agrees (keysIn keys) s f)) (count s), q .counts, file-count f (q .file), items-few (codeOf f))
+
+pub claim-packed : (keys s f before marks : List ℕ) (r : Refusal) (a : Answer) (names rows w : ℕ)
+    → r ≡ reportRefusal keys s f (length before) → names ≡ reportNamed keys s f before → w ≡ packedReport r a names rows
+    → (numberIn w ≡ 0 → r .number ≡ 0) → (r .number ≡ 0 → Claim keys s f marks names a)
+    → numberIn w ≡ 0 → (said : Answer) → number said ≡ answerIn w → Claim keys s f marks (namedIn w) said
+unfolding reportNamed
+claim-packed keys s f before marks r a names rows w er en ew z D e said es =
+    let h = z e in
+    let R = reportable keys s f (length before) r er h in
+    let n = en ∙ sym (if-done r (reportRefusal keys s f (length before)) er _ 0 h) in
+    let b = ap namedIn ew ∙ named-back r a names rows h (subst (λ (x : ℕ). x < 65536) (sym n) (names-few keys s f before R)) in
+    let t = number-tells said a (es ∙ ap answerIn ew ∙ answer-back r a names rows h) in
+    subst (λ (x : Answer). Claim keys s f marks (namedIn w) x) (sym t) (subst (λ (x : ℕ). Claim keys s f marks x a) (sym b) (D h))

@@ -1,0 +1,24 @@
+-- Refused, yes or no (Packing).
+use mathlib.Core.Path.{sym, ap, _∙_}
+use mathlib.Core.Bool.{Bool}
+use Prim.Native.Nat.{_*_}
+use Rattle.incidence.specs.Count.{bit}
+use Rattle.firmware.proofs.Packing.{yes-done, yes-refused}
+use borrow.Author.Needs.{needs}
+use Rattle.firmware.proofs.pack_verify.Statement.{statement}
+use Rattle.firmware.proofs.pack_verify.Tie as tie
+
+pack-requires : tie.Need-pack-requires
+pack-requires c κs = search needs
+
+returns : tie.Need-returns
+returns c = c .pack .ensures ∙ yes-refused _ _ (c .before .if1 .taken)
+
+returns-2 : tie.Need-returns-2
+returns-2 c = ap (λ (t : Bool). 256 * bit t) (sym (c .if2 .taken)) ∙ yes-done _ _ (c .before .if1 .left)
+
+returns-3 : tie.Need-returns-3
+returns-3 c = ap (λ (t : Bool). 256 * bit t) (sym (c .if2 .left)) ∙ yes-done _ _ (c .before .if1 .left)
+
+pub pack-verify-spec : {M : Type 1} → statement M
+pack-verify-spec = tie.close (tie.spec pack-requires returns returns-2 returns-3)

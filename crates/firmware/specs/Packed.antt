@@ -1,0 +1,43 @@
+-- One 64-bit number for what a call says, so that a refused call touches no memory at all. Bits 0 to 7: the refusal's number, 0 where the
+-- call did its work. Refused: bits 8 to 31 are the place. Done: Verify has bit 8 set for yes; Report has the answer in bits 8 to 15
+-- (intact 0, named 1, beyond 2), the number named in bits 16 to 31 and the disagreeing rows in bits 32 to 47. Assumes nothing.
+use mathlib.Core.Bool.{Bool}
+use Prim.Native.Nat.{ℕ, _+_, _*_, _/_, _%_}
+use Rattle.cipher.specs.Block.{if_then_else_}
+use Rattle.incidence.specs.Count.{bit}
+use Rattle.incidence.specs.Report.{number}
+use Rattle.incidence.specs.declared.Answer.{Answer}
+use Rattle.files.specs.declared.Refusal.{Refusal}
+use Rattle.files.specs.Refusals.{passes}
+
+-- a refusal; 0 where there is none
+unfoldable pub packed : Refusal → ℕ
+packed r = r .number + 256 * (r .place % 16777216)
+
+-- what Verify says
+unfoldable pub packedYes : Refusal → Bool → ℕ
+packedYes r same = if passes r then 256 * bit same else packed r
+
+-- what Report says
+unfoldable pub packedReport : Refusal → Answer → ℕ → ℕ → ℕ
+packedReport r said names rows = if passes r then 256 * number said + 65536 * (names % 65536) + 4294967296 * (rows % 65536) else packed r
+
+-- ---- what C reads from it
+
+unfoldable pub numberIn : ℕ → ℕ
+numberIn w = w % 256
+
+unfoldable pub placeIn : ℕ → ℕ
+placeIn w = w / 256 % 16777216
+
+unfoldable pub yesIn : ℕ → ℕ
+yesIn w = w / 256 % 2
+
+unfoldable pub answerIn : ℕ → ℕ
+answerIn w = w / 256 % 256
+
+unfoldable pub namedIn : ℕ → ℕ
+namedIn w = w / 65536 % 65536
+
+unfoldable pub rowsIn : ℕ → ℕ
+rowsIn w = w / 4294967296 % 65536

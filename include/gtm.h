@@ -1,0 +1,93 @@
+/* Tags for a recipe shelf: what the hopper firmware calls.
+ *
+ * A shelf (message file) is tagged once; the sheet (tag file) is kept beside it. Later the shelf is verified against its sheet, or a report
+ * says which cards were altered, and a single card's share of the tags is replaced without reading the others.
+ *
+ * Any pointer that a length of 0 goes with may be null. Otherwise a pointer has to be valid for its length; nothing else is asked of
+ * a caller: any bytes, lengths and numbers may be handed over. Buffers must not overlap. The functions keep nothing between calls, allocate nothing
+ * and do not block.
+ *
+ * Each returns one number. gtm_number() of it is 0 when the call did its work, else the number of a refusal:
+ *
+ *   1  keys not 48 bytes (card key, tag key and seal key, 16 each)                          all calls
+ *   2  size not 1 to 4                                                                      gtm_tag
+ *   3  shelf under 7 or over 65,536 bytes, or wrong letters or version                      gtm_tag, gtm_verify, gtm_report
+ *   4  count 0 or above the cards of the size                                               gtm_tag
+ *   5  a card too long or running past the end, or bytes left over (place: the first such card, or count + 1)   as 3
+ *   6  not a sheet: length, letters, version, size or count                                 gtm_verify, gtm_report, gtm_replace
+ *   7  the buffer lent is shorter than the output                                           gtm_tag, gtm_report, gtm_replace
+ *   8  card number 0 or above the sheet's count                                             gtm_replace
+ *   9  handed card over 1,024 bytes (place: 1 old, 2 new)                                   gtm_replace
+ *  20  the sheet's seal differs: another key, or altered                                    gtm_verify, gtm_report, gtm_replace
+ *  21  shelf and sheet have different counts                                                gtm_verify, gtm_report
+ *
+ * The first that applies is returned, in this order: gtm_tag 1 2 3 4 5 7; gtm_verify 1 3 5 6 20 21; gtm_report the same, then 7; gtm_replace
+ * 1 6 20 8 9 7. A refused call writes nothing. One that is done writes its output to the front of the buffer, and the bytes behind stay.
+ *
+ *   size   cards up to   sheet, bytes   altered cards named exactly, up to
+ *   1      7             88             2
+ *   2      21            184            4
+ *   3      73            472            8
+ *   4      273           1,336          16
+ */
+#ifndef GTM_H
+#define GTM_H
+
+#include <stddef.h>
+#include <stdint.h>
+
+#ifdef __cplusplus
+extern "C" {
+#endif
+
+/* The longest sheet and the most marks, for buffers that serve every size. */
+#define GTM_SHEET_MAX 1336
+#define GTM_CARDS_MAX 273
+
+/* Writes the sheet of a shelf. */
+uint64_t gtm_tag(const uint8_t *keys, size_t keys_len, uint64_t size, const uint8_t *message, size_t message_len, uint8_t *tagfile,
+                 size_t tagfile_len);
+
+/* Whether the shelf is as its sheet says: gtm_yes() of the result. */
+uint64_t gtm_verify(const uint8_t *keys, size_t keys_len, const uint8_t *message, size_t message_len, const uint8_t *tagfile,
+                    size_t tagfile_len);
+
+/* Which cards were altered: writes a byte for each card of the shelf, 1 named and 0 cleared. gtm_answer(), gtm_named() and gtm_rows() of the
+ * result are the answer, the number of cards named and the number of rows that disagree. */
+uint64_t gtm_report(const uint8_t *keys, size_t keys_len, const uint8_t *message, size_t message_len, const uint8_t *tagfile,
+                    size_t tagfile_len, uint8_t *marks, size_t marks_len);
+
+/* Writes the sheet for the shelf with one card replaced. The old card has to be the one that was tagged: another goes unnoticed. */
+uint64_t gtm_replace(const uint8_t *keys, size_t keys_len, const uint8_t *tagfile, size_t tagfile_len, uint64_t number, const uint8_t *old_card,
+                     size_t old_len, const uint8_t *new_card, size_t new_len, uint8_t *out, size_t out_len);
+
+/* What a result says. */
+enum gtm_answer { GTM_INTACT = 0, GTM_NAMED = 1, GTM_BEYOND = 2 };
+
+/* The refusal's number, 0 when the call did its work. */
+static inline unsigned gtm_number(uint64_t result) { return (unsigned)(result & 0xff); }
+
+/* Refused: its place, 0 unless the list names one. */
+static inline uint32_t gtm_place(uint64_t result) { return (uint32_t)(result >> 8 & 0xffffff); }
+
+/* gtm_verify, done: 1 for yes and 0 for no. */
+static inline int gtm_yes(uint64_t result) { return (int)(result >> 8 & 1); }
+
+/* gtm_report, done. */
+static inline enum gtm_answer gtm_answer(uint64_t result) { return (enum gtm_answer)(result >> 8 & 0xff); }
+static inline unsigned gtm_named(uint64_t result) { return (unsigned)(result >> 16 & 0xffff); }
+static inline unsigned gtm_rows(uint64_t result) { return (unsigned)(result >> 32 & 0xffff); }
+
+#ifdef __cplusplus
+}
+#endif
+
+/* An example:
+ *
+ *     uint8_t marks[GTM_CARDS_MAX];
+ *     uint64_t r = gtm_report(keys, 48, shelf, shelf_len, sheet, sheet_len, marks, sizeof marks);
+ *     if (gtm_number(r) != 0) stop("refused", gtm_number(r), gtm_place(r));
+ *     else if (gtm_answer(r) != GTM_INTACT) for (unsigned j = 0; j < count; j++) if (marks[j]) reload(j + 1);
+ */
+
+#endif
