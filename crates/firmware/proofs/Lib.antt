@@ -1,2 +1,3 @@
 -- The laws about the numbers that the functions for C return.
 pub mod Packing
+pub mod Places
