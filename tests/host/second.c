@@ -1,0 +1,638 @@
+#include "second.h"
+
+#include <stdio.h>
+#include <string.h>
+
+#define MOST_CARDS 273
+#define MOST_TAGS 82
+
+const struct plane planes[5] = {
+    {0, 0, 0, {0}},
+    {7, 4, 2, {1, 2, 4}},
+    {21, 10, 4, {3, 6, 7, 12, 14}},
+    {73, 28, 8, {1, 2, 4, 8, 16, 32, 37, 55, 64}},
+    {273, 82, 16, {1, 2, 4, 8, 16, 32, 64, 91, 117, 128, 137, 182, 195, 205, 234, 239, 256}},
+};
+
+static void xor16(uint8_t *to, const uint8_t *from)
+{
+    for (int i = 0; i < 16; i++)
+        to[i] ^= from[i];
+}
+
+/* ---- The cipher ---- */
+
+static uint8_t sbox[256], unsbox[256];
+static uint8_t times[16][256]; /* products with the small factors of the column step */
+
+/* Product in the field of 256 elements, modulo x^8 + x^4 + x^3 + x + 1. */
+static uint8_t product(uint8_t a, uint8_t b)
+{
+    uint8_t sum = 0;
+    for (; b != 0; b >>= 1) {
+        if (b & 1)
+            sum ^= a;
+        a = (uint8_t)(a << 1 ^ (a & 0x80 ? 0x1b : 0));
+    }
+    return sum;
+}
+
+static void make_cipher_tables(void)
+{
+    for (unsigned a = 0; a < 256; a++) {
+        unsigned inverse = 0; /* of 0 it is 0 */
+        for (unsigned b = 1; b < 256; b++)
+            if (product((uint8_t)a, (uint8_t)b) == 1)
+                inverse = b;
+        unsigned image = 0;
+        for (unsigned bit = 0; bit < 8; bit++) {
+            unsigned sum = 0x63u >> bit;
+            for (unsigned k = 0; k < 5; k++)
+                sum ^= inverse >> (bit + (k ? k + 3 : 0)) % 8; /* bits i, i+4, i+5, i+6, i+7 */
+            image |= (sum & 1) << bit;
+        }
+        sbox[a] = (uint8_t)image;
+        unsbox[image] = (uint8_t)a;
+        for (unsigned f = 0; f < 16; f++)
+            times[f][a] = product((uint8_t)a, (uint8_t)f);
+    }
+}
+
+/* The 11 round keys, 16 bytes each. */
+static void expand(const uint8_t key[16], uint8_t w[176])
+{
+    uint8_t constant = 1;
+    memcpy(w, key, 16);
+    for (unsigned i = 16; i < 176; i += 4) {
+        uint8_t word[4];
+        memcpy(word, w + i - 4, 4);
+        if (i % 16 == 0) {
+            uint8_t first = word[0];
+            for (unsigned k = 0; k < 3; k++)
+                word[k] = sbox[word[k + 1]];
+            word[3] = sbox[first];
+            word[0] ^= constant;
+            constant = product(constant, 2);
+        }
+        for (unsigned k = 0; k < 4; k++)
+            w[i + k] = w[i + k - 16] ^ word[k];
+    }
+}
+
+/* Each column, byte r of 4, becomes the sum of factor[(c - r) mod 4] times byte c. */
+static void mix(uint8_t s[16], const uint8_t factor[4])
+{
+    for (unsigned column = 0; column < 16; column += 4) {
+        uint8_t old[4];
+        memcpy(old, s + column, 4);
+        for (unsigned r = 0; r < 4; r++) {
+            uint8_t sum = 0;
+            for (unsigned c = 0; c < 4; c++)
+                sum ^= times[factor[(c + 4 - r) % 4]][old[c]];
+            s[column + r] = sum;
+        }
+    }
+}
+
+static void encipher(const uint8_t w[176], const uint8_t in[16], uint8_t out[16])
+{
+    static const uint8_t factor[4] = {2, 3, 1, 1};
+    uint8_t s[16], moved[16];
+    memcpy(s, in, 16);
+    xor16(s, w);
+    for (unsigned round = 1; round <= 10; round++) {
+        for (unsigned i = 0; i < 16; i++) /* row i mod 4 moves left by i mod 4 columns */
+            moved[i] = sbox[s[(i + 4 * (i % 4)) % 16]];
+        memcpy(s, moved, 16);
+        if (round < 10)
+            mix(s, factor);
+        xor16(s, w + 16 * round);
+    }
+    memcpy(out, s, 16);
+}
+
+static void decipher(const uint8_t w[176], const uint8_t in[16], uint8_t out[16])
+{
+    static const uint8_t factor[4] = {14, 11, 13, 9};
+    uint8_t s[16], moved[16];
+    memcpy(s, in, 16);
+    for (unsigned round = 10; round >= 1; round--) {
+        xor16(s, w + 16 * round);
+        if (round < 10)
+            mix(s, factor);
+        for (unsigned i = 0; i < 16; i++)
+            moved[(i + 4 * (i % 4)) % 16] = unsbox[s[i]];
+        memcpy(s, moved, 16);
+    }
+    xor16(s, w);
+    memcpy(out, s, 16);
+}
+
+void second_encipher(const uint8_t key[16], const uint8_t in[16], uint8_t out[16])
+{
+    uint8_t w[176];
+    expand(key, w);
+    encipher(w, in, out);
+}
+
+void second_decipher(const uint8_t key[16], const uint8_t in[16], uint8_t out[16])
+{
+    uint8_t w[176];
+    expand(key, w);
+    decipher(w, in, out);
+}
+
+/* ---- CMAC ---- */
+
+void second_double(uint8_t block[16])
+{
+    unsigned carry = 0;
+    for (int i = 15; i >= 0; i--) {
+        unsigned wide = block[i] * 2u + carry;
+        block[i] = (uint8_t)wide;
+        carry = wide >> 8;
+    }
+    if (carry)
+        block[15] ^= 0x87;
+}
+
+/* CMAC of a front part (may be empty) followed by the bytes. */
+static void cmac(const uint8_t w[176], const uint8_t *front, size_t front_len, const uint8_t *bytes, size_t len, uint8_t out[16])
+{
+    uint8_t key[16] = {0}, state[16] = {0}, block[16] = {0};
+    size_t total = front_len + len, filled = 0;
+    for (size_t i = 0; i < total; i++) {
+        if (filled == 16) { /* more follows, so this block is not the last */
+            xor16(state, block);
+            encipher(w, state, state);
+            memset(block, 0, 16);
+            filled = 0;
+        }
+        block[filled++] = i < front_len ? front[i] : bytes[i - front_len];
+    }
+    encipher(w, key, key);
+    second_double(key);
+    if (filled < 16) {
+        block[filled] = 0x80;
+        second_double(key);
+    }
+    xor16(state, block);
+    xor16(state, key);
+    encipher(w, state, out);
+}
+
+void second_cmac(const uint8_t key[16], const uint8_t *bytes, size_t len, uint8_t out[16])
+{
+    uint8_t w[176];
+    expand(key, w);
+    cmac(w, NULL, 0, bytes, len, out);
+}
+
+static void code(const uint8_t w[176], unsigned number, const uint8_t *card, size_t len, uint8_t out[16])
+{
+    uint8_t front[8] = {0};
+    for (int i = 0; i < 4; i++)
+        front[7 - i] = (uint8_t)(number >> 8 * i);
+    cmac(w, front, 8, card, len, out);
+}
+
+void second_code(const uint8_t keys[48], unsigned number, const uint8_t *card, size_t len, uint8_t out[16])
+{
+    uint8_t w[176];
+    expand(keys, w);
+    code(w, number, card, len, out);
+}
+
+/* ---- Planes ---- */
+
+/* on[size][row][card], and for each row the set of tagged rows that sum to it; all from 1. */
+static uint8_t on[5][MOST_CARDS + 1][MOST_CARDS + 1];
+static uint8_t parts[5][MOST_CARDS + 1][MOST_TAGS + 1];
+
+int second_on_row(unsigned size, unsigned row, unsigned card)
+{
+    return on[size][row][card];
+}
+
+static void add(uint8_t *to, const uint8_t *from, unsigned last)
+{
+    for (unsigned i = 1; i <= last; i++)
+        to[i] ^= from[i];
+}
+
+/* Elimination: the first t rows are independent and every other row is a sum of some of them. */
+static int make_plane(unsigned size)
+{
+    const struct plane *p = &planes[size];
+    static uint8_t basis[MOST_TAGS + 1][MOST_CARDS + 1], made[MOST_TAGS + 1][MOST_TAGS + 1];
+    unsigned lead[MOST_TAGS + 1];
+    for (unsigned i = 1; i <= p->cards; i++)
+        for (unsigned j = 1; j <= p->cards; j++)
+            for (unsigned k = 0; k <= p->limit; k++)
+                if ((j + p->cards - i) % p->cards == p->list[k])
+                    on[size][i][j] = 1;
+    for (unsigned i = 1; i <= p->cards; i++) {
+        uint8_t row[MOST_CARDS + 1], sum[MOST_TAGS + 1] = {0};
+        unsigned known = i <= p->tags ? i - 1 : p->tags, j = 1;
+        memcpy(row, on[size][i], sizeof row);
+        for (unsigned k = 1; k <= known; k++)
+            if (row[lead[k]]) {
+                add(row, basis[k], p->cards);
+                add(sum, made[k], p->tags);
+            }
+        while (j <= p->cards && !row[j])
+            j++;
+        if ((j <= p->cards) != (i <= p->tags))
+            return 1;
+        memset(parts[size][i], 0, sizeof parts[size][i]);
+        if (i <= p->tags) {
+            sum[i] ^= 1;
+            lead[i] = j;
+            memcpy(basis[i], row, sizeof row);
+            memcpy(made[i], sum, sizeof sum);
+            parts[size][i][i] = 1;
+        } else {
+            memcpy(parts[size][i], sum, sizeof sum);
+        }
+    }
+    return 0;
+}
+
+int second_start(void)
+{
+    int bad = 0;
+    make_cipher_tables();
+    for (unsigned size = 1; size <= 4; size++)
+        bad |= make_plane(size);
+    return bad;
+}
+
+/* ---- Tags ---- */
+
+struct keys {
+    uint8_t card[176], tag[176], seal[176];
+};
+
+static struct keys expand_all(const uint8_t *keys)
+{
+    struct keys k;
+    expand(keys, k.card);
+    expand(keys + 16, k.tag);
+    expand(keys + 32, k.seal);
+    return k;
+}
+
+static void mask(const struct keys *k, unsigned row, uint8_t out[16])
+{
+    memset(out, 0, 16);
+    encipher(k->tag, out, out);
+    for (unsigned i = 0; i < row; i++)
+        second_double(out);
+}
+
+static void tag_of_sum(const struct keys *k, unsigned row, const uint8_t sum[16], uint8_t out[16])
+{
+    uint8_t m[16], s[16];
+    mask(k, row, m);
+    memcpy(s, sum, 16);
+    xor16(s, m);
+    encipher(k->tag, s, out);
+    xor16(out, m);
+}
+
+static void sum_of_tag(const struct keys *k, unsigned row, const uint8_t tag[16], uint8_t out[16])
+{
+    uint8_t m[16], s[16];
+    mask(k, row, m);
+    memcpy(s, tag, 16);
+    xor16(s, m);
+    decipher(k->tag, s, out);
+    xor16(out, m);
+}
+
+/* ---- Reading the two files ---- */
+
+static unsigned two(const uint8_t *b)
+{
+    return b[0] * 256u + b[1];
+}
+
+static struct result refuse(unsigned number, unsigned place)
+{
+    struct result r = {number, place, 0, 0, 0, 0};
+    return r;
+}
+
+static struct result done(void)
+{
+    return refuse(0, 0);
+}
+
+static int bad_head(const uint8_t *shelf, size_t len)
+{
+    return len < 7 || len > 65536 || memcmp(shelf, "TBS", 3) != 0 || two(shelf + 3) != 1;
+}
+
+/* Place of the first bad card, count + 1 for bytes left over, 0 if all is well. The head has been read. */
+static unsigned bad_card(const uint8_t *shelf, size_t len)
+{
+    unsigned count = two(shelf + 5);
+    size_t at = 7;
+    for (unsigned j = 1; j <= count; j++) {
+        if (len - at < 2)
+            return j;
+        size_t card = two(shelf + at);
+        at += 2;
+        if (card > 1024 || card > len - at)
+            return j;
+        at += card;
+    }
+    return at < len ? count + 1 : 0;
+}
+
+/* Sums of all rows of a shelf that has been read. */
+static void shelf_sums(const struct keys *k, unsigned size, const uint8_t *shelf, uint8_t sums[][16])
+{
+    const struct plane *p = &planes[size];
+    unsigned count = two(shelf + 5);
+    const uint8_t *at = shelf + 7;
+    memset(sums, 0, (p->cards + 1) * 16);
+    for (unsigned j = 1; j <= count; j++) {
+        uint8_t c[16];
+        unsigned len = two(at);
+        code(k->card, j, at + 2, len, c);
+        at += 2 + len;
+        for (unsigned i = 1; i <= p->cards; i++)
+            if (on[size][i][j])
+                xor16(sums[i], c);
+    }
+}
+
+static int bad_sheet(const uint8_t *sheet, size_t len)
+{
+    if (len < 24 || memcmp(sheet, "TBT", 3) != 0 || two(sheet + 3) != 1 || sheet[5] < 1 || sheet[5] > 4)
+        return 1;
+    const struct plane *p = &planes[sheet[5]];
+    unsigned count = two(sheet + 6);
+    return count < 1 || count > p->cards || len != 24 + 16 * p->tags;
+}
+
+static int bad_seal(const struct keys *k, const uint8_t *sheet, size_t len)
+{
+    uint8_t seal[16];
+    cmac(k->seal, NULL, 0, sheet, len - 16, seal);
+    return memcmp(seal, sheet + len - 16, 16) != 0;
+}
+
+/* ---- The four calls ---- */
+
+struct result second_tag(const uint8_t *keys, size_t keys_len, uint64_t size, const uint8_t *shelf, size_t shelf_len, uint8_t *out,
+                         size_t out_len)
+{
+    uint8_t sums[MOST_CARDS + 1][16];
+    if (keys_len != 48)
+        return refuse(1, 0);
+    if (size < 1 || size > 4)
+        return refuse(2, 0);
+    if (bad_head(shelf, shelf_len))
+        return refuse(3, 0);
+    const struct plane *p = &planes[size];
+    unsigned count = two(shelf + 5);
+    if (count < 1 || count > p->cards)
+        return refuse(4, 0);
+    unsigned place = bad_card(shelf, shelf_len);
+    if (place)
+        return refuse(5, place);
+    size_t len = 24 + 16 * p->tags;
+    if (out_len < len)
+        return refuse(7, 0);
+    struct keys k = expand_all(keys);
+    shelf_sums(&k, (unsigned)size, shelf, sums);
+    memcpy(out, "TBT\0\1", 5);
+    out[5] = (uint8_t)size;
+    out[6] = shelf[5];
+    out[7] = shelf[6];
+    for (unsigned i = 1; i <= p->tags; i++)
+        tag_of_sum(&k, i, sums[i], out + 8 + 16 * (i - 1));
+    cmac(k.seal, NULL, 0, out, len - 16, out + len - 16);
+    return done();
+}
+
+/* The checks that verify and report share. */
+static struct result check_both(const uint8_t *keys, size_t keys_len, const uint8_t *shelf, size_t shelf_len, const uint8_t *sheet,
+                                size_t sheet_len)
+{
+    if (keys_len != 48)
+        return refuse(1, 0);
+    if (bad_head(shelf, shelf_len))
+        return refuse(3, 0);
+    unsigned place = bad_card(shelf, shelf_len);
+    if (place)
+        return refuse(5, place);
+    if (bad_sheet(sheet, sheet_len))
+        return refuse(6, 0);
+    struct keys k = expand_all(keys);
+    if (bad_seal(&k, sheet, sheet_len))
+        return refuse(20, 0);
+    if (two(shelf + 5) != two(sheet + 6))
+        return refuse(21, 0);
+    return done();
+}
+
+struct result second_verify(const uint8_t *keys, size_t keys_len, const uint8_t *shelf, size_t shelf_len, const uint8_t *sheet,
+                            size_t sheet_len)
+{
+    uint8_t sums[MOST_CARDS + 1][16], tag[16];
+    struct result r = check_both(keys, keys_len, shelf, shelf_len, sheet, sheet_len);
+    if (r.number)
+        return r;
+    struct keys k = expand_all(keys);
+    shelf_sums(&k, sheet[5], shelf, sums);
+    r.yes = 1;
+    for (unsigned i = 1; i <= planes[sheet[5]].tags; i++) {
+        tag_of_sum(&k, i, sums[i], tag);
+        if (memcmp(tag, sheet + 8 + 16 * (i - 1), 16) != 0)
+            r.yes = 0;
+    }
+    return r;
+}
+
+struct result second_report(const uint8_t *keys, size_t keys_len, const uint8_t *shelf, size_t shelf_len, const uint8_t *sheet,
+                            size_t sheet_len, uint8_t *marks, size_t marks_len)
+{
+    uint8_t sums[MOST_CARDS + 1][16], tagged[MOST_TAGS + 1][16], differs[MOST_CARDS + 1];
+    struct result r = check_both(keys, keys_len, shelf, shelf_len, sheet, sheet_len);
+    if (r.number)
+        return r;
+    unsigned size = sheet[5], count = two(shelf + 5);
+    const struct plane *p = &planes[size];
+    if (marks_len < count)
+        return refuse(7, 0);
+    struct keys k = expand_all(keys);
+    shelf_sums(&k, size, shelf, sums);
+    for (unsigned i = 1; i <= p->tags; i++)
+        sum_of_tag(&k, i, sheet + 8 + 16 * (i - 1), tagged[i]);
+    memset(marks, 1, count);
+    for (unsigned i = 1; i <= p->cards; i++) {
+        uint8_t sum[16] = {0};
+        for (unsigned l = 1; l <= p->tags; l++)
+            if (parts[size][i][l])
+                xor16(sum, tagged[l]);
+        differs[i] = memcmp(sum, sums[i], 16) != 0;
+        r.rows += differs[i];
+        for (unsigned j = 1; j <= count; j++)
+            if (!differs[i] && on[size][i][j])
+                marks[j - 1] = 0;
+    }
+    int explained = 1; /* every row that disagrees holds a named card */
+    for (unsigned i = 1; i <= p->cards; i++) {
+        int holds = 0;
+        for (unsigned j = 1; j <= count; j++)
+            holds |= on[size][i][j] & marks[j - 1];
+        if (differs[i] && !holds)
+            explained = 0;
+    }
+    for (unsigned j = 0; j < count; j++)
+        r.named += marks[j];
+    if (r.rows == 0)
+        r.answer = 0;
+    else if (r.named >= 1 && r.named <= p->limit && explained)
+        r.answer = 1;
+    else
+        r.answer = 2;
+    return r;
+}
+
+struct result second_replace(const uint8_t *keys, size_t keys_len, const uint8_t *sheet, size_t sheet_len, uint64_t number,
+                             const uint8_t *old_card, size_t old_len, const uint8_t *new_card, size_t new_len, uint8_t *out,
+                             size_t out_len)
+{
+    if (keys_len != 48)
+        return refuse(1, 0);
+    if (bad_sheet(sheet, sheet_len))
+        return refuse(6, 0);
+    struct keys k = expand_all(keys);
+    if (bad_seal(&k, sheet, sheet_len))
+        return refuse(20, 0);
+    if (number < 1 || number > two(sheet + 6))
+        return refuse(8, 0);
+    if (old_len > 1024)
+        return refuse(9, 1);
+    if (new_len > 1024)
+        return refuse(9, 2);
+    if (out_len < sheet_len)
+        return refuse(7, 0);
+    uint8_t change[16], new_code[16];
+    unsigned size = sheet[5], j = (unsigned)number;
+    code(k.card, j, old_card, old_len, change);
+    code(k.card, j, new_card, new_len, new_code);
+    xor16(change, new_code);
+    memcpy(out, sheet, sheet_len);
+    for (unsigned i = 1; i <= planes[size].tags; i++) {
+        uint8_t sum[16];
+        if (!on[size][i][j])
+            continue;
+        sum_of_tag(&k, i, sheet + 8 + 16 * (i - 1), sum);
+        xor16(sum, change);
+        tag_of_sum(&k, i, sum, out + 8 + 16 * (i - 1));
+    }
+    cmac(k.seal, NULL, 0, out, sheet_len - 16, out + sheet_len - 16);
+    return done();
+}
+
+/* ---- Vectors and bench cards ---- */
+
+static int failed;
+
+static void expect(int holds, const char *what)
+{
+    if (!holds) {
+        printf("self-check: %s\n", what);
+        failed++;
+    }
+}
+
+static size_t from_hex(const char *hex, uint8_t *out)
+{
+    size_t len = strlen(hex) / 2;
+    for (size_t i = 0; i < len; i++) {
+        unsigned byte = 0;
+        sscanf(hex + 2 * i, "%2x", &byte);
+        out[i] = (uint8_t)byte;
+    }
+    return len;
+}
+
+static void check_cipher(const char *key, const char *plain, const char *secret, const char *what)
+{
+    uint8_t k[16], p[16], c[16], got[16];
+    from_hex(key, k);
+    from_hex(plain, p);
+    from_hex(secret, c);
+    second_encipher(k, p, got);
+    expect(memcmp(got, c, 16) == 0, what);
+    second_decipher(k, c, got);
+    expect(memcmp(got, p, 16) == 0, what);
+}
+
+static void check_cmac(size_t len, const char *mac, const char *what)
+{
+    uint8_t k[16], bytes[64], want[16], got[16];
+    from_hex("2b7e151628aed2a6abf7158809cf4f3c", k);
+    from_hex("6bc1bee22e409f96e93d7e117393172aae2d8a571e03ac9c9eb76fac45af8e51"
+             "30c81c46a35ce411e5fbc1191a0a52eff69f2445df4f9b17ad2b417be66c3710", bytes);
+    from_hex(mac, want);
+    second_cmac(k, bytes, len, got);
+    expect(memcmp(got, want, 16) == 0, what);
+}
+
+/* Zero keys, size 1, cards 01 to 07; then as many cards as `changed` says, from `first` on, become 09. */
+static struct result bench(unsigned first, unsigned changed, uint8_t marks[7])
+{
+    uint8_t keys[48] = {0}, shelf[28] = "TBS\0\1\0\7", sheet[88];
+    for (uint8_t j = 1; j <= 7; j++) {
+        shelf[7 + 3 * (j - 1) + 1] = 1;
+        shelf[7 + 3 * (j - 1) + 2] = j;
+    }
+    second_tag(keys, 48, 1, shelf, 28, sheet, 88);
+    for (unsigned j = first; j < first + changed; j++)
+        shelf[7 + 3 * (j - 1) + 2] = 9;
+    return second_report(keys, 48, shelf, 28, sheet, 88, marks, 7);
+}
+
+int second_check(void)
+{
+    uint8_t marks[7], block[16] = {0x80}, doubled[16] = {0}, keys[48] = {0}, sheet[88];
+    static const uint8_t one_empty[10] = "TBS\0\1\0\1\0\0";
+    struct result r;
+    failed = 0;
+    check_cipher("2b7e151628aed2a6abf7158809cf4f3c", "3243f6a8885a308d313198a2e0370734", "3925841d02dc09fbdc118597196a0b32",
+                 "FIPS 197, appendix B");
+    check_cipher("000102030405060708090a0b0c0d0e0f", "00112233445566778899aabbccddeeff", "69c4e0d86a7b0430d8cdb78070b4c55a",
+                 "FIPS 197, appendix C.1");
+    check_cmac(0, "bb1d6929e95937287fa37d129b756746", "RFC 4493, example 1");
+    check_cmac(16, "070a16b46b4d4144f79bdd9dd04a287c", "RFC 4493, example 2");
+    check_cmac(40, "dfa66747de9ae63030ca32611497c827", "RFC 4493, example 3");
+    check_cmac(64, "51f0bebf7e3b9d92fc49741779363cfe", "RFC 4493, example 4");
+    expect(sbox[0x53] == 0xed, "S-box of 53");
+    doubled[15] = 0x87;
+    second_double(block);
+    expect(memcmp(block, doubled, 16) == 0, "doubling of 80 and fifteen 00");
+    expect(memcmp(on[1][1] + 1, "\0\1\1\0\1\0\0", 7) == 0, "size 1, row 1 holds 2 3 5");
+    expect(memcmp(on[1][4] + 1, "\1\0\0\0\1\1\0", 7) == 0, "size 1, row 4 holds 1 5 6");
+    expect(on[1][4][1] && on[1][6][1] && on[1][7][1], "size 1, card 1 is on rows 4 6 7");
+    expect(memcmp(on[2][1] + 1, "\0\0\0\1\0\0\1\1\0\0\0\0\1\0\1\0\0\0\0\0\0", 21) == 0, "size 2, row 1 holds 4 7 8 13 15");
+    expect(memcmp(parts[1][5] + 1, "\1\1\1\0", 4) == 0, "size 1, row 5 is rows 1, 2, 3");
+    r = bench(2, 1, marks);
+    expect(r.answer == 1 && r.named == 1 && r.rows == 3 && memcmp(marks, "\0\1\0\0\0\0\0", 7) == 0, "card 2 changed");
+    r = bench(1, 2, marks);
+    expect(r.answer == 1 && r.named == 2 && r.rows == 5 && memcmp(marks, "\1\1\0\0\0\0\0", 7) == 0, "cards 1 2 changed");
+    r = bench(1, 3, marks);
+    expect(r.answer == 2 && r.named == 4 && r.rows == 6 && memcmp(marks, "\1\1\1\0\0\1\0", 7) == 0, "cards 1 2 3 changed");
+    expect(second_tag(keys, 48, 1, one_empty, 9, sheet, 88).number == 0, "a shelf of one empty card");
+    r = second_tag(keys, 48, 1, one_empty, 8, sheet, 88);
+    expect(r.number == 5 && r.place == 1, "one byte fewer");
+    r = second_tag(keys, 48, 1, one_empty, 10, sheet, 88);
+    expect(r.number == 5 && r.place == 2, "one byte more");
+    return failed;
+}

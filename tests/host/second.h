@@ -1,0 +1,52 @@
+/* A second implementation of the recipe shelf's tags, for tests.
+ *
+ * It is written from the requirements alone and shares no code and no constants with the library but the four difference lists. Plain byte
+ * operations, no care for speed or timing. A later row is found as a XOR of tagged rows by elimination, not by a pattern. */
+#ifndef SECOND_H
+#define SECOND_H
+
+#include <stddef.h>
+#include <stdint.h>
+
+struct plane {
+    unsigned cards, tags, limit;
+    unsigned list[17]; /* limit + 1 differences */
+};
+
+/* Planes by size code, 1 to 4. */
+extern const struct plane planes[5];
+
+struct result {
+    unsigned number;      /* 0 when done, else the refusal */
+    unsigned place;       /* refused: its place */
+    int yes;              /* verify */
+    int answer;           /* report: 0 intact, 1 named, 2 beyond */
+    unsigned named, rows; /* report */
+};
+
+/* Works out the tables; to be called once, before all else. Returns 0, or 1 if the planes are not what they should be. */
+int second_start(void);
+
+/* The published vectors of the cipher and of CMAC and the bench cards of the requirements. Returns how many fail, naming each. */
+int second_check(void);
+
+/* The four calls. Output is written when the call is done, and not a byte when it refuses. */
+struct result second_tag(const uint8_t *keys, size_t keys_len, uint64_t size, const uint8_t *shelf, size_t shelf_len, uint8_t *out,
+                         size_t out_len);
+struct result second_verify(const uint8_t *keys, size_t keys_len, const uint8_t *shelf, size_t shelf_len, const uint8_t *sheet,
+                            size_t sheet_len);
+struct result second_report(const uint8_t *keys, size_t keys_len, const uint8_t *shelf, size_t shelf_len, const uint8_t *sheet,
+                            size_t sheet_len, uint8_t *marks, size_t marks_len);
+struct result second_replace(const uint8_t *keys, size_t keys_len, const uint8_t *sheet, size_t sheet_len, uint64_t number,
+                             const uint8_t *old_card, size_t old_len, const uint8_t *new_card, size_t new_len, uint8_t *out,
+                             size_t out_len);
+
+/* The parts that the tests use to make inputs. */
+void second_encipher(const uint8_t key[16], const uint8_t in[16], uint8_t out[16]);
+void second_decipher(const uint8_t key[16], const uint8_t in[16], uint8_t out[16]);
+void second_double(uint8_t block[16]);
+void second_cmac(const uint8_t key[16], const uint8_t *bytes, size_t len, uint8_t out[16]);
+void second_code(const uint8_t keys[48], unsigned number, const uint8_t *card, size_t len, uint8_t out[16]);
+int second_on_row(unsigned size, unsigned row, unsigned card);
+
+#endif
