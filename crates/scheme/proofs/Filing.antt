@@ -1,52 +1,28 @@
--- From sums to files and back: empty arrays of sums, files whose sums are equal, and what the calls write.
+-- From sums to files and back: what the calls write, and the sums that a file gives.
 use mathlib.Core.Path.{_≡_, refl, sym, ap, ap₂, _∙_}
 use mathlib.Core.Bool.{Bool, true, false}
-use mathlib.Core.List.{List, _∷_, _++_}
-use Prim.Native.Nat.{ℕ, zero, suc, _+_, _-_, _*_, _≤_, _<_}
+use mathlib.Core.List.{List, _++_}
+use Prim.Native.Nat.{ℕ, suc, _+_, _-_, _*_, _≤_, _<_}
 use native.Mathlib.Omega.{arith}
 use lib.ListN.{length, take, drop, length-append, length-take, length-drop, take-append-drop}
 use lib.Seq.{take-at, drop-at}
 use borrow.Author.Tests.{eq-eqb, ne-eqb}
-use Rattle.cipher.specs.Block.{if_then_else_, _⊕_, zeros, slot, listOf, same}
+use Rattle.cipher.specs.Block.{if_then_else_, _⊕_, slot, listOf, same}
 use Rattle.cipher.proofs.Xor.{same-true, same-eq}
 use Rattle.cipher.proofs.Slots.{slot-length, slot-front, listOf-length, listOf-ext, slot-listOf}
 use Rattle.sizes.specs.Sizes.{familyOf}
 use Rattle.files.specs.declared.Refusal.{Refusal}
 use Rattle.files.specs.Refusals.{passes}
 use Rattle.files.specs.Message.{count, item}
-use Rattle.files.specs.TagFile.{body, sealed, fileSize, codeOf, countOf, tagsIn}
+use Rattle.files.specs.TagFile.{fileSize, codeOf, countOf, tagsIn}
 use Rattle.files.proofs.Accepted.{Formed}
 use Rattle.keyed.specs.Keyed.{itemHash, tagOf, sumOfTag, tagsOf, sumsOf}
 use Rattle.keyed.proofs.KeyedLaws.{sumOfTag-length}
 use Rattle.sums.specs.Adding.{sumIn, Holds, Added}
 use Rattle.tagging.specs.declared.Keys.{Keys}
 use Rattle.tagging.specs.Tagging.{keysIn, tagSum, fileOf, tagFile}
-use Rattle.tagging.proofs.Writing.{tagsOf-length}
+use Rattle.tagging.proofs.Writing.{tagsOf-length, file-same}
 use Rattle.scheme.specs.Calls.{tagsFor, sumTagged, replacedSum}
-
--- ---- arrays of zeros
-
-drop-zeros : (k m : ℕ) → drop k (zeros m) ≡ zeros (m - k)
-drop-zeros zero m = let e : m ≡ m - 0 = omega arith in ap zeros e
-drop-zeros (suc k) zero = let e : 0 ≡ 0 - suc k = omega arith in ap zeros e
-drop-zeros (suc k) (suc m) = let e : m - k ≡ suc m - suc k = omega arith in drop-zeros k m ∙ ap zeros e
-
-take-zeros : (k m : ℕ) → k ≤ m → take k (zeros m) ≡ zeros k
-take-zeros zero m h = refl
-take-zeros (suc k) zero h = absurd (omega arith)
-take-zeros (suc k) (suc m) h = ap (λ (l : List ℕ). 0 ∷ l) (take-zeros k m (omega arith))
-
-pub zero-sums : (m k : ℕ) → 1 ≤ k → 16 * k ≤ m → sumIn (zeros m) k ≡ zeros 16
-unfolding sumIn slot
-zero-sums m k l h = ap (take 16) (drop-zeros (16 * (k - 1)) m) ∙ take-zeros 16 (m - 16 * (k - 1)) (omega arith)
-
--- ---- files of equal sums
-
-pub file-same : (keys : Keys) (c n : ℕ) (a b : ℕ → List ℕ) → ((k : ℕ) → 1 ≤ k → k ≤ familyOf c .tags → a k ≡ b k) → fileOf keys c n a ≡ fileOf keys c n b
-unfolding fileOf
-file-same keys c n a b h =
-    ap (λ (t : List ℕ). sealed (keys .seal) (body c n t))
-    (listOf-ext _ _ (familyOf c .tags) (λ k l. ap (tagOf (keys .tag) (suc k)) (h (suc k) (omega arith) (omega arith))))
 
 -- ---- done, or refused
 

@@ -29,10 +29,11 @@ use Rattle.files.specs.Handed.{refuse1, refuse7}
 use Rattle.files.proofs.Passing.{first-later, unless-true, and-true}
 use Rattle.keyed.specs.Keyed.{itemHash}
 use Rattle.tagging.specs.Tagging.{keysIn, hashes, tagSum, fileOf, tagFile}
+use Rattle.tagging.proofs.Writing.{file-same}
 use Rattle.scheme.specs.Calls.{refuse21, tagRefusal, verifyRefusal, tagsFor, verifyYes, reportRefusal, sumTagged, replaceRefusal, replacedSum, replacedItem, replaceWrites}
 use Rattle.scheme.specs.Claim.{changed, NoRowCancels, marked, Claim}
 use Rattle.scheme.proofs.Checking.{taggable}
-use Rattle.scheme.proofs.Filing.{file-same, if-done}
+use Rattle.scheme.proofs.Filing.{if-done}
 use Rattle.scheme.proofs.Unaltered.{key-blocks, hashes-long, code-is, count-is, tags-are, accepted, sums-back}
 
 -- ---- nothing is refused

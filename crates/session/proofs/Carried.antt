@@ -1,39 +1,19 @@
--- The sums that a session carries: none yet, a value added to those of one item's tags, and the file made of them.
-use mathlib.Core.Path.{_≡_, refl, sym, ap, _∙_}
+-- The sums that a session carries: a value added to those of one item's tags.
+use mathlib.Core.Path.{_≡_, ap, _∙_}
 use mathlib.Core.Bool.{Bool, true, false}
 use mathlib.Core.List.{List, _++_}
 use Prim.Native.Nat.{ℕ, suc, _+_, _-_, _*_, _≤_, _<_}
 use native.Mathlib.Omega.{arith}
-use lib.ListN.{length, take, drop, length-append, length-drop, length-replicate, replicate-append-replicate}
-use lib.Seq.{take-at, drop-at}
-use Rattle.cipher.specs.Block.{if_then_else_, _⊕_, zeros, slot, listOf}
+use lib.ListN.{length, drop, length-append, length-drop}
+use lib.Seq.{drop-at}
+use Rattle.cipher.specs.Block.{if_then_else_, _⊕_, slot, listOf}
 use Rattle.cipher.proofs.Xor.{⊕-length}
 use Rattle.cipher.proofs.Slots.{slot-length, slot-listOf, listOf-length, listOf-ext}
 use Rattle.sizes.specs.Sizes.{familyOf}
 use Rattle.sizes.proofs.Laws.{tags-few}
-use Rattle.files.specs.TagFile.{body, sealed}
-use Rattle.keyed.specs.Keyed.{tagOf}
 use Rattle.sums.specs.Adding.{sumIn, Added}
-use Rattle.tagging.specs.declared.Keys.{Keys}
-use Rattle.tagging.specs.Tagging.{fileOf}
 use Rattle.tagging.proofs.Summing.{holds-is}
 use Rattle.session.specs.Session.{addedToTags}
-
--- ---- none yet
-
--- every block of zeros is zero
-pub zeros-slot : (n k : ℕ) → 16 * k + 16 ≤ n → slot (zeros n) k ≡ zeros 16
-unfolding slot
-zeros-slot n k h =
-    let m = n - (16 * k + 16) in
-    let e : 16 * k + (16 + m) ≡ n = omega arith in
-    ap (λ (l : List ℕ). slot l k)
-    (ap (λ (x : ℕ). zeros x) (sym e)
-    ∙ sym (ap (λ (l : List ℕ). zeros (16 * k) ++ l) (replicate-append-replicate 16 m 0) ∙ replicate-append-replicate (16 * k) (16 + m) 0))
-    ∙ ap (take 16) (drop-at (zeros (16 * k)) (zeros 16 ++ zeros m) (16 * k) (length-replicate (16 * k) 0))
-    ∙ take-at (zeros 16) (zeros m) 16 refl
-
--- ---- a value added
 
 -- the sums take at most 82 blocks
 pub sums-fit : (c : ℕ) (sums : List ℕ) → length sums ≡ 1312 → 16 * familyOf c .tags ≤ length sums
@@ -81,12 +61,3 @@ module _ (c j : ℕ) (value sums : List ℕ) (v : length value ≡ 16) (s : leng
             ∙ ap (λ (x : ℕ). if F .on (F .rowOfTag x) j then slot sums (t - 1) ⊕ value else slot sums (t - 1)) e;
         rest = drop-at (listOf block m) (drop (16 * m) sums) (16 * m) l;
       }
-
--- ---- the file
-
--- a tag file tells no more of the sums than the tags'
-pub file-ext : (k : Keys) (c n : ℕ) (f g : ℕ → List ℕ) → ((t : ℕ) → 1 ≤ t → t ≤ familyOf c .tags → f t ≡ g t) → fileOf k c n f ≡ fileOf k c n g
-unfolding fileOf
-file-ext k c n f g h =
-    ap (λ (l : List ℕ). sealed (k .seal) (body c n l))
-    (listOf-ext _ _ (familyOf c .tags) (λ t l. ap (tagOf (k .tag) (suc t)) (h (suc t) (omega arith) (omega arith))))

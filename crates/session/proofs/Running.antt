@@ -24,10 +24,11 @@ use Rattle.files.proofs.Passing.{unless-true, unless-false, and-left, and-true}
 use Rattle.keyed.specs.Keyed.{itemHash}
 use Rattle.sums.specs.Adding.{sumIn, Holds}
 use Rattle.tagging.specs.Tagging.{keysIn, hashes, tagSum, fileOf, tagFile}
-use Rattle.tagging.proofs.Summing.{summed-first, summed-next}
+use Rattle.tagging.proofs.Summing.{zero-sums, summed-first, summed-next}
+use Rattle.tagging.proofs.Writing.{file-same}
 use Rattle.session.specs.declared.Session.{Session}
 use Rattle.session.specs.Session.{closed, isOpen, refuse22, refuse23, refuse24, beginRefusal, beginGives, putRefusal, addedToTags, withItem, putGives, closeRefusal, closeGives, closeWrites, after}
-use Rattle.session.proofs.Carried.{zeros-slot, tags-added, file-ext}
+use Rattle.session.proofs.Carried.{tags-added}
 use Rattle.session.proofs.Stepping.{first-same, none-of, given, begin-tells, put-tells}
 
 module _ (keys : List ℕ) (c n : ℕ) (items : ℕ → List ℕ) where
@@ -60,7 +61,7 @@ module _ (keys : List ℕ) (c n : ℕ) (items : ℕ → List ℕ) where
         taken = refl;
         same-keys = refl;
         sums = summed-first (familyOf c) (familyOf c .tags) (familyOf c .rowOfTag) (hashes (keysIn keys) items) (zeros 1312)
-            (λ t lo hi. zeros-slot 1312 (t - 1) (omega (arith, tags-few c)));
+            (λ t lo hi. zero-sums 1312 t lo (omega (arith, tags-few c)));
         is-open = and-true _ _ (and-true _ _ (b .code) (and-true _ _ (le-leb 1 n (b .low)) (le-leb n _ (b .high)))) (le-leb 0 n (omega arith));
       }
 
@@ -151,7 +152,7 @@ module _ (keys : List ℕ) (c n : ℕ) (items : ℕ → List ℕ) where
         q,
         sym (given none (closeRefusal s out) (sym q) (fileOf (s .keys) (s .code) (s .count) (sumIn (s .sums)) ++ drop (fileSize (s .code)) out) out refl)
             ∙ (λ i. fileOf (H .same-keys i) (H .code i) (H .count i) (sumIn (s .sums)) ++ drop (fileSize (H .code i)) out)
-            ∙ ap (λ (l : List ℕ). l ++ drop (fileSize c) out) (file-ext (keysIn keys) c n (sumIn (s .sums)) (tagSum (keysIn keys) c items n) (H .sums .sums)),
+            ∙ ap (λ (l : List ℕ). l ++ drop (fileSize c) out) (file-same (keysIn keys) c n (sumIn (s .sums)) (tagSum (keysIn keys) c items n) (H .sums .sums)),
         sym (given none (closeRefusal s out) (sym q) closed s refl),
       )
 

@@ -1,7 +1,7 @@
 -- A walk over items adds each value to the sums of its rows: after k items, the sums are those of the first k.
 use mathlib.Core.Path.{_≡_, refl, sym, ap, ap₂, _∙_, subst}
 use mathlib.Core.Bool.{Bool}
-use mathlib.Core.List.{List, _++_}
+use mathlib.Core.List.{List, _∷_, _++_}
 use Prim.Native.Nat.{ℕ, zero, suc, _+_, _-_, _*_, _≤_, _<_}
 use native.Mathlib.Omega.{arith}
 use native.Mathlib.Numerals.{add-one}
@@ -18,6 +18,22 @@ use Rattle.files.proofs.Messages.{Fits, item-fits}
 use Rattle.sums.specs.Adding.{sumIn, Holds, Added}
 use Rattle.tagging.specs.declared.Keys.{Keys}
 use Rattle.tagging.specs.Tagging.{keysIn}
+
+-- ---- arrays of zeros
+
+drop-zeros : (k m : ℕ) → drop k (zeros m) ≡ zeros (m - k)
+drop-zeros zero m = let e : m ≡ m - 0 = omega arith in ap zeros e
+drop-zeros (suc k) zero = let e : 0 ≡ 0 - suc k = omega arith in ap zeros e
+drop-zeros (suc k) (suc m) = let e : m - k ≡ suc m - suc k = omega arith in drop-zeros k m ∙ ap zeros e
+
+take-zeros : (k m : ℕ) → k ≤ m → take k (zeros m) ≡ zeros k
+take-zeros zero m h = refl
+take-zeros (suc k) zero h = absurd (omega arith)
+take-zeros (suc k) (suc m) h = ap (λ (l : List ℕ). 0 ∷ l) (take-zeros k m (omega arith))
+
+pub zero-sums : (m k : ℕ) → 1 ≤ k → 16 * k ≤ m → sumIn (zeros m) k ≡ zeros 16
+unfolding sumIn slot
+zero-sums m k l h = ap (take 16) (drop-zeros (16 * (k - 1)) m) ∙ take-zeros 16 (m - 16 * (k - 1)) (omega arith)
 
 -- ---- the walk
 

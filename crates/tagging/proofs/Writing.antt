@@ -70,3 +70,11 @@ module _ (keys : Keys) (c n t : ℕ) (sums o o1 o2 o3 : List ℕ) (hk : length (
       ∙ drop-drop 16 (8 + 16 * t) o ∙ ap (λ (k : ℕ). drop k o) (sym z))
       ∙ sym (append-assoc b (cmac (keys .seal) b) (drop (fileSize c) o))
       ∙ ap (λ (s : List ℕ). ((header c n ++ s) ++ cmac (keys .seal) (header c n ++ s)) ++ drop (fileSize c) o) tags-are
+
+-- ---- files of equal sums
+
+pub file-same : (keys : Keys) (c n : ℕ) (a b : ℕ → List ℕ) → ((k : ℕ) → 1 ≤ k → k ≤ familyOf c .tags → a k ≡ b k) → fileOf keys c n a ≡ fileOf keys c n b
+unfolding fileOf
+file-same keys c n a b h =
+    ap (λ (t : List ℕ). sealed (keys .seal) (body c n t))
+    (listOf-ext _ _ (familyOf c .tags) (λ k l. ap (tagOf (keys .tag) (suc k)) (h (suc k) (omega arith) (omega arith))))

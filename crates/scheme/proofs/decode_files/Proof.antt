@@ -7,8 +7,8 @@ use Rattle.sizes.specs.Sizes.{known, familyOf}
 use Rattle.sizes.proofs.Laws.{rows-few, tags-few}
 use Rattle.files.specs.Message.{count}
 use Rattle.files.specs.TagFile.{codeOf}
+use Rattle.tagging.proofs.Summing.{zero-sums}
 use Rattle.scheme.proofs.Checking.{reportable, file-code, file-count}
-use Rattle.scheme.proofs.Filing.{zero-sums}
 use Rattle.scheme.proofs.Comparing.{written-as, answer-as, named-as, rows-as}
 use borrow.Author.Needs.{needs}
 use Rattle.scheme.proofs.decode_files.Statement.{statement}

@@ -6,8 +6,9 @@ use Rattle.cipher.specs.Block.{same, zeros}
 use Rattle.sizes.specs.Sizes.{known, familyOf}
 use Rattle.sizes.proofs.Laws.{tags-few}
 use Rattle.files.specs.TagFile.{fileSize, codeOf}
+use Rattle.tagging.proofs.Summing.{zero-sums}
 use Rattle.scheme.proofs.Checking.{comparable, file-code}
-use Rattle.scheme.proofs.Filing.{zero-sums, same-is, tags-long, tags-written, tags-there, tag-key-long}
+use Rattle.scheme.proofs.Filing.{same-is, tags-long, tags-written, tags-there, tag-key-long}
 use borrow.Author.Needs.{needs}
 use Rattle.scheme.proofs.tags_equal.Statement.{statement}
 use Rattle.scheme.proofs.tags_equal.Tie as tie

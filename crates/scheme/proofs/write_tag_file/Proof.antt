@@ -6,8 +6,9 @@ use lib.ListN.{length}
 use Rattle.sizes.specs.Sizes.{familyOf}
 use Rattle.sizes.proofs.Laws.{tags-few}
 use Rattle.files.specs.Message.{count, item}
+use Rattle.tagging.proofs.Summing.{zero-sums}
 use Rattle.scheme.proofs.Checking.{taggable}
-use Rattle.scheme.proofs.Filing.{zero-sums, tag-file-made}
+use Rattle.scheme.proofs.Filing.{tag-file-made}
 use borrow.Author.Needs.{needs}
 use Rattle.scheme.proofs.write_tag_file.Statement.{statement}
 use Rattle.scheme.proofs.write_tag_file.Tie as tie
