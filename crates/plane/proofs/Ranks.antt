@@ -6,10 +6,8 @@ use Prim.Native.Nat.{ℕ, zero, suc, _+_, _-_, _≤_, _<_}
 use native.Mathlib.Nat.{add-suc}
 use native.Mathlib.Omega.{arith}
 use lib.Dec.{eqb, ltb, leb}
-use native.Mathlib.Numerals.{add-one}
-use lib.ListN.{length, getD, drop, drop-of-length-le}
-use lib.Seq.{drop-cons}
-use borrow.Author.Tests.{ltb-true, leb-true, leb-false, le-leb, lt-leb, eqb-true, eqb-false, eq-eqb, ne-eqb}
+use lib.ListN.{length, getD}
+use borrow.Author.Tests.{ltb-true, ltb-false, leb-true, leb-false, le-leb, lt-leb, eqb-true, eqb-false, eq-eqb, ne-eqb}
 use Rattle.incidence.specs.Count.{bit, count}
 use Rattle.incidence.proofs.Booleans.{and-left, and-right, or-first, or-second}
 use Rattle.incidence.proofs.Counting.{count-ext}
@@ -213,21 +211,19 @@ count-down g a (suc n) =
     count-ext (λ k. g (a + suc k)) (λ k. g (suc a + k)) n (λ k l u. let w : a + suc k ≡ suc a + k = omega arith in ap g w) in
     rw (x, y) (omega (arith, count-down g (suc a) n, count-first (λ k. g (a + k)) n))
 
--- ---- a walk along the list: what was counted and what is left are the rank
+-- ---- which side of a member a rank is on
 
-rank-drop : (D : List ℕ) (x k : ℕ) → k < length D → rank (drop k D) x ≡ bit (leb (getD D k 0) x) + rank (drop (k + 1) D) x
-rank-drop D x k h =
-    ap (λ (l : List ℕ). rank l x) (drop-cons D k 0 h) ∙ ap (λ (n : ℕ). bit (leb (getD D k 0) x) + rank (drop n D) x) (sym (add-one k))
+module _ (b : ℕ) (D : List ℕ) (h : above b D ≡ true) (x k : ℕ) (l : k < length D) where
+  pub rank-above : getD D k 0 ≤ x → k < rank D x
+  rank-above e = go (ltb k (rank D x)) refl
+    where
+      go : (t : Bool) → ltb k (rank D x) ≡ t → k < rank D x
+      go true q = ltb-true k (rank D x) q
+      go false q = absurd (omega (arith, rank-least b D h x k l (ltb-false k (rank D x) q)))
 
-pub rank-more : (D : List ℕ) (x k r e n : ℕ) → e ≡ getD D k 0 → k < length D → r + rank (drop k D) x ≡ n → e ≤ x → r + 1 + rank (drop (k + 1) D) x ≡ n
-rank-more D x k r e n p h q l =
-    let b : leb (getD D k 0) x ≡ true = le-leb (getD D k 0) x (omega arith) in
-    omega (arith, rank-drop D x k h, ap bit b)
-
-pub rank-less : (D : List ℕ) (x k r e n : ℕ) → e ≡ getD D k 0 → k < length D → r + rank (drop k D) x ≡ n → x < e → r + rank (drop (k + 1) D) x ≡ n
-rank-less D x k r e n p h q l =
-    let b : leb (getD D k 0) x ≡ false = lt-leb (getD D k 0) x (omega arith) in
-    omega (arith, rank-drop D x k h, ap bit b)
-
-pub rank-end : (D : List ℕ) (x k r n : ℕ) → length D ≤ k → r + rank (drop k D) x ≡ n → r ≡ n
-rank-end D x k r n h q = omega (arith, ap (λ (l : List ℕ). rank l x) (drop-of-length-le D h))
+  pub rank-below : x < getD D k 0 → rank D x ≤ k
+  rank-below e = go (ltb k (rank D x)) refl
+    where
+      go : (t : Bool) → ltb k (rank D x) ≡ t → rank D x ≤ k
+      go true q = absurd (omega (arith, rank-most b D h x k l (ltb-true k (rank D x) q)))
+      go false q = ltb-false k (rank D x) q

@@ -134,22 +134,23 @@ pub fn difference(s: usize, k: usize) -> usize
     entry(&t, column(DIFFERENCES_AT, s) + k)
 }
 
-// How many differences are at most x.
+// How many differences are at most x: they rise, so it is found by halving.
 pub fn rank(s: usize, x: usize) -> usize
     ensures { λ r. ⌜ r ≡ many (λ e. leb e x) (differences s) ⌝ }
 {
     let t = DIFFERENCES;
     let at = column(DIFFERENCES_AT, s);
-    let n = column(DIFFERENCE_COUNTS, s);
-    let mut r = 0;
-    let mut k = 0;
-    while k < n {
+    let mut low = 0;
+    let mut high = column(DIFFERENCE_COUNTS, s);
+    while low < high {
+        let k = (low + high) / 2;
         if entry(&t, at + k) <= x {
-            r += 1;
+            low = k + 1;
+        } else {
+            high = k;
         }
-        k += 1;
     }
-    r
+    low
 }
 
 // How many entries the row pattern has.

@@ -1,5 +1,5 @@
 // The rows of an item and the items of a row, in rising order. Row i holds item j when (j − i) modulo m is a difference, so both lists
-// follow the difference list, which is walked once; no pair of row and item is tested. A number out of range gets 0 or false.
+// follow the difference list from the place where it turns; no pair of row and item is tested. A number out of range gets 0 or false.
 use crate::table;
 ghost use mathlib.Core.Path.{_≡_};
 ghost use lib.ListN.{length, getD};
