@@ -7,7 +7,7 @@
  * a single case again. */
 #define _DEFAULT_SOURCE
 #include "gtm.h"
-#include "second.h"
+#include "inputs.h"
 
 #include <signal.h>
 #include <stdio.h>
@@ -16,8 +16,6 @@
 #include <sys/mman.h>
 #include <time.h>
 #include <unistd.h>
-
-#define COUNT(list) (sizeof(list) / sizeof(list)[0])
 
 static uint64_t seed, case_number;
 static char where[120]; /* what is being done, for a message */
@@ -40,50 +38,10 @@ static void crashed(int signal_number)
     _exit(1);
 }
 
-/* ---- Random choices ---- */
-
-static uint64_t state;
-
-static uint64_t any(void)
-{
-    uint64_t z = state += 0x9e3779b97f4a7c15u;
-    z = (z ^ z >> 30) * 0xbf58476d1ce4e5b9u;
-    z = (z ^ z >> 27) * 0x94d049bb133111ebu;
-    return z ^ z >> 31;
-}
-
-static unsigned below(unsigned n)
-{
-    return (unsigned)(any() % n);
-}
-
-static int one_in(unsigned n)
-{
-    return below(n) == 0;
-}
-
-static void fill(uint8_t *to, size_t len)
-{
-    for (size_t i = 0; i < len; i++)
-        to[i] = (uint8_t)any();
-}
-
-static void put_two(uint8_t *to, unsigned value)
-{
-    to[0] = (uint8_t)(value >> 8);
-    to[1] = (uint8_t)value;
-}
-
-static void flip(uint8_t *bytes, size_t len)
-{
-    if (len)
-        bytes[below((unsigned)len)] ^= (uint8_t)(1u << below(8));
-}
-
 /* ---- Buffers between guard pages ---- */
 
-#define ROOM 131072u /* a multiple of every usual page */
-#define RIM 64u     /* bytes watched on the open side */
+#define ROOM SHELF_ROOM /* a multiple of every usual page */
+#define RIM 64u         /* bytes watched on the open side */
 
 struct part {
     const char *name;
@@ -135,228 +93,9 @@ static void check_part(const struct part *p)
         }
 }
 
-/* ---- A shelf of cards ---- */
-
-static unsigned size, count;
-static uint8_t card[GTM_CARDS_MAX + 2][1025];
-static unsigned card_len[GTM_CARDS_MAX + 2];
-
-static void write_shelf(void)
-{
-    uint8_t *at = shelf.bytes + 7;
-    memcpy(shelf.bytes, "TBS\0\1", 5);
-    put_two(shelf.bytes + 5, count);
-    for (unsigned j = 1; j <= count; j++) {
-        put_two(at, card_len[j]);
-        memcpy(at + 2, card[j], card_len[j]);
-        at += 2 + card_len[j];
-    }
-    shelf.len = (size_t)(at - shelf.bytes);
-}
-
-static unsigned some_length(unsigned style)
-{
-    static const unsigned edges[] = {0, 1, 7, 8, 9, 15, 16, 23, 24, 25, 39, 40, 41, 1022, 1023, 1024};
-    switch (style) {
-    case 0: return below(4);
-    case 1: return below(41);
-    case 2: return edges[below(COUNT(edges) - (one_in(8) ? 0 : 3))];
-    case 3: return below(300);
-    case 4: return one_in(3) ? 0 : 1024;
-    default: return 1024; /* 64 cards and more fill a shelf to the last byte */
-    }
-}
-
-static void make_shelf(void)
-{
-    static const uint8_t sizes[] = {1, 1, 1, 1, 1, 2, 2, 2, 2, 2, 3, 3, 3, 4}, styles[] = {0, 0, 0, 0, 0, 0, 0, 1, 1, 1, 1, 2, 2, 2};
-    size = sizes[below(COUNT(sizes))];
-    unsigned style = styles[below(COUNT(styles))], m = planes[size].cards;
-    if (one_in(40))
-        style = 3 + below(3);
-    count = one_in(3) ? m : one_in(8) ? 1 : 1 + below(m);
-    unsigned room = 65536 - 7 - 2 * count;
-    for (unsigned j = 1; j <= count; j++) {
-        unsigned len = some_length(style);
-        card_len[j] = len < room ? len : room;
-        room -= card_len[j];
-        fill(card[j], card_len[j]);
-    }
-    write_shelf();
-}
-
-/* Gives card j 24 bytes whose code is the one wanted: the card key is known, so the last block can be had by deciphering. */
-static void forge(unsigned j, const uint8_t want[16])
-{
-    uint8_t first[16] = {0}, subkey[16] = {0}, last[16], got[16];
-    fill(card[j], 8);
-    put_two(first + 6, j);
-    memcpy(first + 8, card[j], 8);
-    second_encipher(keys.bytes, first, first);
-    second_encipher(keys.bytes, subkey, subkey);
-    second_double(subkey);
-    second_decipher(keys.bytes, want, last);
-    for (int i = 0; i < 16; i++)
-        card[j][8 + i] = last[i] ^ first[i] ^ subkey[i];
-    card_len[j] = 24;
-    second_code(keys.bytes, j, card[j], 24, got);
-    if (memcmp(got, want, 16) != 0)
-        differs("forged card", 0, 0);
-}
-
-/* Adds a difference to the code of card j. */
-static void move_code(unsigned j, const uint8_t difference[16])
-{
-    uint8_t want[16];
-    second_code(keys.bytes, j, card[j], card_len[j], want);
-    for (int i = 0; i < 16; i++)
-        want[i] ^= difference[i];
-    forge(j, want);
-}
-
-static void change_card(unsigned j)
-{
-    if (card_len[j] && !one_in(4))
-        flip(card[j], card_len[j]);
-    else {
-        card_len[j] = card_len[j] ? below(card_len[j]) : 1 + below(8);
-        fill(card[j], card_len[j]);
-    }
-}
-
-static void swap_cards(unsigned a, unsigned b)
-{
-    uint8_t bytes[1025];
-    unsigned len = card_len[a];
-    memcpy(bytes, card[a], 1025);
-    memcpy(card[a], card[b], 1025);
-    memcpy(card[b], bytes, 1025);
-    card_len[a] = card_len[b];
-    card_len[b] = len;
-}
-
-/* Changes some of the cards: plainly, by changing places, or so that rows cancel. */
-static void alter_cards(void)
-{
-    unsigned d = planes[size].limit, order[GTM_CARDS_MAX], changed;
-    const unsigned usual[] = {0, 1, 2, d, d + 1, count, below(d + 2), below(count + 1)};
-    changed = usual[below(COUNT(usual))];
-    if (changed > count)
-        changed = count;
-    for (unsigned i = 0; i < count; i++) {
-        unsigned k = below(i + 1);
-        order[i] = order[k];
-        order[k] = i + 1;
-    }
-    if (one_in(4)) { /* the cards of one row first */
-        unsigned row = 1 + below(planes[size].cards), front = 0;
-        for (unsigned i = 0; i < count; i++)
-            if (second_on_row(size, row, order[i])) {
-                unsigned j = order[i];
-                order[i] = order[front];
-                order[front++] = j;
-            }
-    }
-    unsigned way = below(8);
-    uint8_t common[16], sum[16] = {0};
-    fill(common, 16);
-    for (unsigned i = 0; i < changed; i++) {
-        unsigned j = order[i];
-        if (way == 0 || (way == 1 && one_in(2))) { /* one difference for all, or for some of them */
-            move_code(j, common);
-        } else if (way == 2) { /* differences that cancel over all of them */
-            int last = i > 0 && i + 1 == changed;
-            fill(common, 16);
-            move_code(j, last ? sum : common);
-            for (int k = 0; k < 16; k++)
-                sum[k] ^= common[k];
-        } else if (way == 3 && i + 1 < changed) {
-            swap_cards(j, order[i + 1]);
-            i++;
-        } else {
-            change_card(j);
-        }
-    }
-    write_shelf();
-}
+static struct draft cards; /* what the shelf was made of */
 
 /* ---- Damage ---- */
-
-static size_t place_of(unsigned number)
-{
-    size_t at = 7;
-    for (unsigned j = 1; j < number; j++)
-        at += 2 + card_len[j];
-    return at;
-}
-
-static void damage_shelf(void)
-{
-    unsigned m = planes[size].cards, j = 1 + below(count);
-    const unsigned counts[] = {0, count - 1, count + 1, m, m + 1, 65535, below(65536), count + 256};
-    const unsigned lengths[] = {1024, 1025, 65535, card_len[j] + 1, card_len[j] - 1, below(65536), below(2048)};
-    const unsigned cuts[] = {1, 2, below(8), below((unsigned)shelf.len), (unsigned)shelf.len - below(9)};
-    uint8_t *b = shelf.bytes;
-    switch (below(14)) {
-    case 0: flip(b, shelf.len); break;
-    case 1: b[below(3)] = (uint8_t)any(); break;
-    case 2: memcpy(b, "TBT", 3); break;
-    case 3: put_two(b + 3, one_in(2) ? below(4) : below(65536)); break;
-    case 4: put_two(b + 5, counts[below(COUNT(counts))]); break;
-    case 5: put_two(b + place_of(j), lengths[below(COUNT(lengths))] & 0xffff); break;
-    case 6: /* cut off */
-        if (cuts[j = below(COUNT(cuts))] <= shelf.len)
-            shelf.len -= cuts[j];
-        break;
-    case 7: /* bytes left over, of any kind or zero */
-        j = 1 + below(one_in(2) ? 2 : 40);
-        memset(b + shelf.len, 0, j);
-        if (one_in(2))
-            fill(b + shelf.len, j);
-        shelf.len += j;
-        break;
-    case 8: /* noise, with or without a head */
-        shelf.len = below(80);
-        fill(b, shelf.len);
-        if (one_in(2) && shelf.len >= 7)
-            memcpy(b, "TBS\0\1\0", 6);
-        break;
-    case 9: /* a good shelf of one card more or fewer */
-        if (one_in(2)) {
-            count--;
-        } else {
-            count++;
-            card_len[count] = below(4);
-            fill(card[count], card_len[count]);
-        }
-        write_shelf();
-        break;
-    case 10: /* the same cards and one that is a byte too long */
-        if (shelf.len + 1026 <= 65536) {
-            card_len[j] = 1025;
-            write_shelf();
-        }
-        break;
-    case 11: /* empty cards, as many as a shelf holds */
-        if (one_in(4)) {
-            unsigned cards = one_in(2) ? 32764 : below(32765), said = one_in(2) ? cards : cards + 1;
-            shelf.len = 7 + 2 * cards;
-            memset(b + 7, 0, 2 * cards);
-            put_two(b + 5, one_in(4) ? 65535 : said);
-        }
-        break;
-    case 12: /* too long by a little, whatever it says */
-        if (one_in(4)) {
-            size_t len = 65536 + below(3);
-            if (len > shelf.len) {
-                memset(b + shelf.len, 0, len - shelf.len);
-                shelf.len = len;
-            }
-        }
-        break;
-    default: shelf.len = 0; break;
-    }
-}
 
 static void reseal(void)
 {
@@ -366,9 +105,9 @@ static void reseal(void)
 
 static void damage_sheet(void)
 {
-    const struct plane *p = &planes[size];
+    const struct plane *p = &planes[cards.size];
     uint8_t *b = sheet.bytes, *tags = b + 8, tag[16];
-    unsigned x = below(p->tags), y = below(p->tags), other = 1 + below(4);
+    unsigned size = cards.size, count = cards.count, x = below(p->tags), y = below(p->tags), other = 1 + below(4);
     const unsigned counts[] = {0, p->cards, p->cards + 1, count - 1, count + 1, count + 256, below(65536), 65535};
     const unsigned codes[] = {0, 5, 255, other, 128 + size, below(256)};
     const unsigned lengths[] = {0, 1, 7, 15, 16, 23, 24, 40, (unsigned)sheet.len - 1, (unsigned)sheet.len - 16, below((unsigned)sheet.len)};
@@ -439,6 +178,7 @@ static unsigned long seen[4][256], answers[3], verdicts[2], left_over, bad_cards
 
 static uint64_t some_size_code(void)
 {
+    unsigned size = cards.size;
     const uint64_t wrong[] = {0, 5, 255, 256, 256 + size, 65536 + size, (UINT64_C(1) << 32) + 1, (UINT64_C(1) << 32) + size,
                               (UINT64_C(1) << 63) + size, UINT64_MAX, any()};
     if (one_in(6))
@@ -448,6 +188,7 @@ static uint64_t some_size_code(void)
 
 static uint64_t some_card_number(unsigned number)
 {
+    unsigned count = cards.count;
     const uint64_t others[] = {0, count, count + 1, 256 + number, 65536 + number, (UINT64_C(1) << 32) + 1, (UINT64_C(1) << 32) + number,
                                (UINT64_C(1) << 63) + number, UINT64_MAX, any()};
     return one_in(4) ? others[below(COUNT(others))] : number;
@@ -489,12 +230,12 @@ static void compare(enum call call, uint64_t library, struct result second)
 static void check_replaced(unsigned number)
 {
     static uint8_t fresh[GTM_SHEET_MAX];
-    card_len[number] = (unsigned)new_card.len;
-    memcpy(card[number], new_card.bytes, new_card.len);
-    write_shelf();
+    cards.len[number] = (unsigned)new_card.len;
+    memcpy(cards.card[number], new_card.bytes, new_card.len);
+    shelf.len = write_shelf(&cards, shelf.bytes);
     if (shelf.len > 65536)
         return;
-    second_tag(keys.bytes, 48, size, shelf.bytes, shelf.len, fresh, sizeof fresh);
+    second_tag(keys.bytes, 48, cards.size, shelf.bytes, shelf.len, fresh, sizeof fresh);
     if (memcmp(fresh, out.bytes, sheet.len) != 0)
         differs("replaced and tagged afresh", 0, 0);
 }
@@ -515,22 +256,23 @@ static void run_case(void)
     fill(keys.bytes, 48);
     if (one_in(20))
         memset(keys.bytes, one_in(2) ? 0 : keys.bytes[0], 48);
-    make_shelf();
+    make_shelf(&cards);
+    shelf.len = write_shelf(&cards, shelf.bytes);
 
-    size_t sheet_len = 24 + 16 * planes[size].tags;
+    size_t sheet_len = 24 + 16 * planes[cards.size].tags;
     if (call == TAG) {
         code = some_size_code();
     } else {
         sheet.len = sheet_len;
-        second = second_tag(keys.bytes, 48, size, shelf.bytes, shelf.len, sheet.bytes, sheet.len);
+        second = second_tag(keys.bytes, 48, cards.size, shelf.bytes, shelf.len, sheet.bytes, sheet.len);
         if (second.number != 0)
             differs("making a sheet", 0, second.number);
     }
     if (call == REPLACE) {
-        number = 1 + below(count);
+        number = 1 + below(cards.count);
         code = some_card_number(number);
-        old_card.len = card_len[number];
-        memcpy(old_card.bytes, card[number], old_card.len);
+        old_card.len = cards.len[number];
+        memcpy(old_card.bytes, cards.card[number], old_card.len);
         some_card(&new_card);
         honest = code == number;
         if (one_in(3)) {
@@ -538,16 +280,17 @@ static void run_case(void)
             honest = 0;
         }
     } else if (call != TAG) {
-        alter_cards();
+        alter_cards(&cards, keys.bytes, how_many(&cards));
+        shelf.len = write_shelf(&cards, shelf.bytes);
     }
     if (call != TAG && one_in(5)) {
         damage_sheet();
         honest = 0;
     }
     if (call != REPLACE && one_in(5))
-        damage_shelf();
+        shelf.len = damage_shelf(&cards, shelf.bytes, shelf.len);
     if (call != VERIFY)
-        lend_output(call == REPORT ? count : sheet_len);
+        lend_output(call == REPORT ? cards.count : sheet_len);
     if (one_in(12)) {
         damage_keys();
         honest = 0;
@@ -638,9 +381,7 @@ int main(int argc, char **argv)
     for (size_t i = 0; i < COUNT(all_parts); i++)
         map(all_parts[i]);
     for (case_number = first; case_number <= cases; case_number++) {
-        state = seed;
-        state = any() + case_number;
-        state = any();
+        start_case(seed, case_number);
         run_case();
     }
     if (argc > 3) {

@@ -3,9 +3,6 @@
 #include <stdio.h>
 #include <string.h>
 
-#define MOST_CARDS 273
-#define MOST_TAGS 82
-
 const struct plane planes[5] = {
     {0, 0, 0, {0}},
     {7, 4, 2, {1, 2, 4}},
@@ -540,6 +537,34 @@ struct result second_replace(const uint8_t *keys, size_t keys_len, const uint8_t
     return done();
 }
 
+/* ---- The report program ---- */
+
+/* Keys, a size code and a length stand in front of the two shelves. */
+#define FRONT (48 + 1 + 2)
+
+size_t second_print(const uint8_t *input, size_t len, char out[MOST_PRINTED])
+{
+    static const char *const answers[] = {"intact", "named", "beyond"};
+    uint8_t sheet[24 + 16 * MOST_TAGS], marks[MOST_CARDS];
+    if (len < FRONT || len > 65536 || two(input + 49) > len - FRONT)
+        return (size_t)sprintf(out, "unreadable\n");
+    size_t first_len = two(input + 49), second_len = len - FRONT - first_len;
+    const uint8_t *first = input + FRONT, *second = first + first_len;
+    unsigned size = input[48];
+    struct result r = second_tag(input, 48, size, first, first_len, sheet, sizeof sheet);
+    if (r.number == 0)
+        r = second_report(input, 48, second, second_len, sheet, 24 + 16 * planes[size].tags, marks, sizeof marks);
+    if (r.number != 0)
+        return (size_t)sprintf(out, "refused %u place %u\n", r.number, r.place);
+    unsigned count = two(first + 5);
+    int at = sprintf(out, "cards %u tags %u limit %u\n", count, planes[size].tags, planes[size].limit);
+    at += sprintf(out + at, "%s %u rows %u\n", answers[r.answer], r.named, r.rows);
+    for (unsigned j = 1; j <= count; j++)
+        if (marks[j - 1])
+            at += sprintf(out + at, "card %u\n", j);
+    return (size_t)at;
+}
+
 /* ---- Vectors and bench cards ---- */
 
 static int failed;
@@ -586,18 +611,36 @@ static void check_cmac(size_t len, const char *mac, const char *what)
     expect(memcmp(got, want, 16) == 0, what);
 }
 
-/* Zero keys, size 1, cards 01 to 07; then as many cards as `changed` says, from `first` on, become 09. */
+/* Cards 01 to 07; as many as `changed` says, from `first` on, are 09. */
+static void bench_shelf(unsigned first, unsigned changed, uint8_t shelf[28])
+{
+    memcpy(shelf, "TBS\0\1\0\7", 7);
+    for (unsigned j = 1; j <= 7; j++) {
+        memcpy(shelf + 7 + 3 * (j - 1), "\0\1", 2);
+        shelf[7 + 3 * (j - 1) + 2] = (uint8_t)(j >= first && j < first + changed ? 9 : j);
+    }
+}
+
+/* Zero keys, size 1, no card changed in the first shelf and some in the second. */
 static struct result bench(unsigned first, unsigned changed, uint8_t marks[7])
 {
-    uint8_t keys[48] = {0}, shelf[28] = "TBS\0\1\0\7", sheet[88];
-    for (uint8_t j = 1; j <= 7; j++) {
-        shelf[7 + 3 * (j - 1) + 1] = 1;
-        shelf[7 + 3 * (j - 1) + 2] = j;
-    }
+    uint8_t keys[48] = {0}, shelf[28], sheet[88];
+    bench_shelf(0, 0, shelf);
     second_tag(keys, 48, 1, shelf, 28, sheet, 88);
-    for (unsigned j = first; j < first + changed; j++)
-        shelf[7 + 3 * (j - 1) + 2] = 9;
+    bench_shelf(first, changed, shelf);
     return second_report(keys, 48, shelf, 28, sheet, 88, marks, 7);
+}
+
+/* The same as an input of the report program, of which `len` bytes are given and the first shelf is said to have `said`. */
+static void check_print(size_t len, uint8_t said, const char *want, const char *what)
+{
+    uint8_t input[FRONT + 28 + 28] = {0};
+    char printed[MOST_PRINTED];
+    input[48] = 1;
+    input[50] = said;
+    bench_shelf(0, 0, input + FRONT);
+    bench_shelf(2, 1, input + FRONT + 28);
+    expect(second_print(input, len, printed) == strlen(want) && strcmp(printed, want) == 0, what);
 }
 
 int second_check(void)
@@ -634,5 +677,11 @@ int second_check(void)
     expect(r.number == 5 && r.place == 1, "one byte fewer");
     r = second_tag(keys, 48, 1, one_empty, 10, sheet, 88);
     expect(r.number == 5 && r.place == 2, "one byte more");
+    check_print(107, 28, "cards 7 tags 4 limit 2\nnamed 1 rows 3\ncard 2\n", "the report program's example");
+    check_print(107, 57, "unreadable\n", "a first shelf past the end");
+    check_print(107, 56, "refused 5 place 8\n", "both shelves as the first");
+    check_print(79, 28, "refused 3 place 0\n", "no second shelf");
+    check_print(51, 0, "refused 3 place 0\n", "no shelf at all");
+    check_print(50, 0, "unreadable\n", "fewer bytes than stand in front");
     return failed;
 }

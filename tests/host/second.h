@@ -8,6 +8,9 @@
 #include <stddef.h>
 #include <stdint.h>
 
+#define MOST_CARDS 273
+#define MOST_TAGS 82
+
 struct plane {
     unsigned cards, tags, limit;
     unsigned list[17]; /* limit + 1 differences */
@@ -40,6 +43,10 @@ struct result second_report(const uint8_t *keys, size_t keys_len, const uint8_t 
 struct result second_replace(const uint8_t *keys, size_t keys_len, const uint8_t *sheet, size_t sheet_len, uint64_t number,
                              const uint8_t *old_card, size_t old_len, const uint8_t *new_card, size_t new_len, uint8_t *out,
                              size_t out_len);
+
+/* What the report program prints for an input, to the last byte; returns its length. The text ends in a zero byte that is not counted. */
+#define MOST_PRINTED 4096
+size_t second_print(const uint8_t *input, size_t len, char out[MOST_PRINTED]);
 
 /* The parts that the tests use to make inputs. */
 void second_encipher(const uint8_t key[16], const uint8_t in[16], uint8_t out[16]);

@@ -1,0 +1,282 @@
+#include "inputs.h"
+
+#include <stdio.h>
+#include <stdlib.h>
+#include <string.h>
+
+/* ---- Random choices ---- */
+
+static uint64_t state;
+
+void start_case(uint64_t seed, uint64_t case_number)
+{
+    state = seed;
+    state = any() + case_number;
+    state = any();
+}
+
+uint64_t any(void)
+{
+    uint64_t z = state += 0x9e3779b97f4a7c15u;
+    z = (z ^ z >> 30) * 0xbf58476d1ce4e5b9u;
+    z = (z ^ z >> 27) * 0x94d049bb133111ebu;
+    return z ^ z >> 31;
+}
+
+unsigned below(unsigned n)
+{
+    return (unsigned)(any() % n);
+}
+
+int one_in(unsigned n)
+{
+    return below(n) == 0;
+}
+
+void fill(uint8_t *to, size_t len)
+{
+    for (size_t i = 0; i < len; i++)
+        to[i] = (uint8_t)any();
+}
+
+void flip(uint8_t *bytes, size_t len)
+{
+    if (len)
+        bytes[below((unsigned)len)] ^= (uint8_t)(1u << below(8));
+}
+
+void put_two(uint8_t *to, unsigned value)
+{
+    to[0] = (uint8_t)(value >> 8);
+    to[1] = (uint8_t)value;
+}
+
+/* ---- A shelf of cards ---- */
+
+size_t write_shelf(const struct draft *d, uint8_t *to)
+{
+    uint8_t *at = to + 7;
+    memcpy(to, "TBS\0\1", 5);
+    put_two(to + 5, d->count);
+    for (unsigned j = 1; j <= d->count; j++) {
+        put_two(at, d->len[j]);
+        memcpy(at + 2, d->card[j], d->len[j]);
+        at += 2 + d->len[j];
+    }
+    return (size_t)(at - to);
+}
+
+size_t place_of(const struct draft *d, unsigned number)
+{
+    size_t at = 7;
+    for (unsigned j = 1; j < number; j++)
+        at += 2 + d->len[j];
+    return at;
+}
+
+unsigned some_length(unsigned style)
+{
+    static const unsigned edges[] = {0, 1, 7, 8, 9, 15, 16, 23, 24, 25, 39, 40, 41, 1022, 1023, 1024};
+    switch (style) {
+    case 0: return below(4);
+    case 1: return below(41);
+    case 2: return edges[below(COUNT(edges) - (one_in(8) ? 0 : 3))];
+    case 3: return below(300);
+    case 4: return one_in(3) ? 0 : 1024;
+    default: return 1024; /* 64 cards and more fill a shelf to the last byte */
+    }
+}
+
+void make_cards(struct draft *d, unsigned style)
+{
+    unsigned room = 65536 - 7 - 2 * d->count;
+    for (unsigned j = 1; j <= d->count; j++) {
+        unsigned len = some_length(style);
+        d->len[j] = len < room ? len : room;
+        room -= d->len[j];
+        fill(d->card[j], d->len[j]);
+    }
+}
+
+void make_shelf(struct draft *d)
+{
+    static const uint8_t sizes[] = {1, 1, 1, 1, 1, 2, 2, 2, 2, 2, 3, 3, 3, 4}, styles[] = {0, 0, 0, 0, 0, 0, 0, 1, 1, 1, 1, 2, 2, 2};
+    d->size = sizes[below(COUNT(sizes))];
+    unsigned style = styles[below(COUNT(styles))], m = planes[d->size].cards;
+    if (one_in(40))
+        style = 3 + below(3);
+    d->count = one_in(3) ? m : one_in(8) ? 1 : 1 + below(m);
+    make_cards(d, style);
+}
+
+/* ---- Changed cards ---- */
+
+/* Gives card j 24 bytes whose code is the one wanted: the card key is known, so the last block can be had by deciphering. */
+static void forge(struct draft *d, const uint8_t keys[48], unsigned j, const uint8_t want[16])
+{
+    uint8_t first[16] = {0}, subkey[16] = {0}, last[16], got[16];
+    fill(d->card[j], 8);
+    put_two(first + 6, j);
+    memcpy(first + 8, d->card[j], 8);
+    second_encipher(keys, first, first);
+    second_encipher(keys, subkey, subkey);
+    second_double(subkey);
+    second_decipher(keys, want, last);
+    for (int i = 0; i < 16; i++)
+        d->card[j][8 + i] = last[i] ^ first[i] ^ subkey[i];
+    d->len[j] = 24;
+    second_code(keys, j, d->card[j], 24, got);
+    if (memcmp(got, want, 16) != 0) {
+        printf("a forged card has another code than was wanted\n");
+        exit(1);
+    }
+}
+
+/* Adds a difference to the code of card j. */
+static void move_code(struct draft *d, const uint8_t keys[48], unsigned j, const uint8_t difference[16])
+{
+    uint8_t want[16];
+    second_code(keys, j, d->card[j], d->len[j], want);
+    for (int i = 0; i < 16; i++)
+        want[i] ^= difference[i];
+    forge(d, keys, j, want);
+}
+
+static void change_card(struct draft *d, unsigned j)
+{
+    if (d->len[j] && !one_in(4))
+        flip(d->card[j], d->len[j]);
+    else {
+        d->len[j] = d->len[j] ? below(d->len[j]) : 1 + below(8);
+        fill(d->card[j], d->len[j]);
+    }
+}
+
+static void swap_cards(struct draft *d, unsigned a, unsigned b)
+{
+    uint8_t bytes[1025];
+    unsigned len = d->len[a];
+    memcpy(bytes, d->card[a], 1025);
+    memcpy(d->card[a], d->card[b], 1025);
+    memcpy(d->card[b], bytes, 1025);
+    d->len[a] = d->len[b];
+    d->len[b] = len;
+}
+
+unsigned how_many(const struct draft *d)
+{
+    unsigned limit = planes[d->size].limit;
+    const unsigned usual[] = {0, 1, 2, limit, limit + 1, d->count, below(limit + 2), below(d->count + 1)};
+    return usual[below(COUNT(usual))];
+}
+
+void alter_cards(struct draft *d, const uint8_t keys[48], unsigned changed)
+{
+    unsigned order[MOST_CARDS];
+    if (changed > d->count)
+        changed = d->count;
+    for (unsigned i = 0; i < d->count; i++) {
+        unsigned k = below(i + 1);
+        order[i] = order[k];
+        order[k] = i + 1;
+    }
+    if (one_in(4)) { /* the cards of one row first */
+        unsigned row = 1 + below(planes[d->size].cards), front = 0;
+        for (unsigned i = 0; i < d->count; i++)
+            if (second_on_row(d->size, row, order[i])) {
+                unsigned j = order[i];
+                order[i] = order[front];
+                order[front++] = j;
+            }
+    }
+    unsigned way = below(8);
+    uint8_t common[16], sum[16] = {0};
+    fill(common, 16);
+    for (unsigned i = 0; i < changed; i++) {
+        unsigned j = order[i];
+        if (way == 0 || (way == 1 && one_in(2))) { /* one difference for all, or for some of them */
+            move_code(d, keys, j, common);
+        } else if (way == 2) { /* differences that cancel over all of them */
+            int last = i > 0 && i + 1 == changed;
+            fill(common, 16);
+            move_code(d, keys, j, last ? sum : common);
+            for (int k = 0; k < 16; k++)
+                sum[k] ^= common[k];
+        } else if (way == 3 && i + 1 < changed) {
+            swap_cards(d, j, order[i + 1]);
+            i++;
+        } else {
+            change_card(d, j);
+        }
+    }
+}
+
+/* ---- Damage ---- */
+
+size_t damage_shelf(struct draft *d, uint8_t *file, size_t len)
+{
+    unsigned m = planes[d->size].cards, count = d->count, j = 1 + below(count);
+    const unsigned counts[] = {0, count - 1, count + 1, m, m + 1, 65535, below(65536), count + 256};
+    const unsigned lengths[] = {1024, 1025, 65535, d->len[j] + 1, d->len[j] - 1, below(65536), below(2048)};
+    const unsigned cuts[] = {1, 2, below(8), below((unsigned)len), (unsigned)len - below(9)};
+    switch (below(14)) {
+    case 0: flip(file, len); break;
+    case 1: file[below(3)] = (uint8_t)any(); break;
+    case 2: memcpy(file, "TBT", 3); break;
+    case 3: put_two(file + 3, one_in(2) ? below(4) : below(65536)); break;
+    case 4: put_two(file + 5, counts[below(COUNT(counts))]); break;
+    case 5: put_two(file + place_of(d, j), lengths[below(COUNT(lengths))] & 0xffff); break;
+    case 6: /* cut off */
+        if (cuts[j = below(COUNT(cuts))] <= len)
+            len -= cuts[j];
+        break;
+    case 7: /* bytes left over, of any kind or zero */
+        j = 1 + below(one_in(2) ? 2 : 40);
+        memset(file + len, 0, j);
+        if (one_in(2))
+            fill(file + len, j);
+        len += j;
+        break;
+    case 8: /* noise, with or without a head */
+        len = below(80);
+        fill(file, len);
+        if (one_in(2) && len >= 7)
+            memcpy(file, "TBS\0\1\0", 6);
+        break;
+    case 9: /* a good shelf of one card more or fewer */
+        if (one_in(2)) {
+            d->count--;
+        } else {
+            d->count++;
+            d->len[d->count] = below(4);
+            fill(d->card[d->count], d->len[d->count]);
+        }
+        len = write_shelf(d, file);
+        break;
+    case 10: /* the same cards and one that is a byte too long */
+        if (len + 1026 <= 65536) {
+            d->len[j] = 1025;
+            len = write_shelf(d, file);
+        }
+        break;
+    case 11: /* empty cards, as many as a shelf holds */
+        if (one_in(4)) {
+            unsigned cards = one_in(2) ? 32764 : below(32765), said = one_in(2) ? cards : cards + 1;
+            len = 7 + 2 * cards;
+            memset(file + 7, 0, 2 * cards);
+            put_two(file + 5, one_in(4) ? 65535 : said);
+        }
+        break;
+    case 12: /* too long by a little, whatever it says */
+        if (one_in(4)) {
+            size_t more = 65536 + below(3);
+            if (more > len) {
+                memset(file + len, 0, more - len);
+                len = more;
+            }
+        }
+        break;
+    default: len = 0; break;
+    }
+    return len;
+}

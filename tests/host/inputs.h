@@ -1,0 +1,52 @@
+/* Random inputs for the tests: choices from one state, and shelves that are good, altered or damaged. Made with the second implementation alone. */
+#ifndef INPUTS_H
+#define INPUTS_H
+
+#include "second.h"
+
+#define COUNT(list) (sizeof(list) / sizeof(list)[0])
+#define SHELF_ROOM 131072u /* bytes that the writer of a shelf may need, damage included */
+
+/* ---- Random choices ---- */
+
+/* What follows depends on the seed and the case's number alone. */
+void start_case(uint64_t seed, uint64_t case_number);
+uint64_t any(void);
+unsigned below(unsigned n);
+int one_in(unsigned n);
+void fill(uint8_t *to, size_t len);
+void flip(uint8_t *bytes, size_t len); /* one bit, unless there is none */
+void put_two(uint8_t *to, unsigned value);
+
+/* ---- A shelf of cards ---- */
+
+/* A shelf as its cards, numbered from 1, before it is laid out as a file. */
+struct draft {
+    unsigned size, count;
+    unsigned len[MOST_CARDS + 2];
+    uint8_t card[MOST_CARDS + 2][1025];
+};
+
+/* Lays the cards out as a file; returns its length. */
+size_t write_shelf(const struct draft *d, uint8_t *to);
+
+/* Where the length of a card stands in the file. */
+size_t place_of(const struct draft *d, unsigned number);
+
+/* The length of a card; styles 0 to 2 are short, 5 is the longest. */
+unsigned some_length(unsigned style);
+
+/* Gives each card of a good shelf its length and bytes; size and count have been set. */
+void make_cards(struct draft *d, unsigned style);
+
+/* A good shelf of any size and count. */
+void make_shelf(struct draft *d);
+
+/* Changes so many of the cards: plainly, by changing places, or so that rows cancel. */
+void alter_cards(struct draft *d, const uint8_t keys[48], unsigned changed);
+unsigned how_many(const struct draft *d);
+
+/* Damages the file of a shelf in one of many ways; returns its new length. The cards may change with it. */
+size_t damage_shelf(struct draft *d, uint8_t *file, size_t len);
+
+#endif
