@@ -1,6 +1,8 @@
-/* The speed of Tag, Verify, Report and Replace, from one run: each time as a ratio to (a) one CMAC of the same bytes by this library's
- * cipher, the source paper's own measure, (b) the second implementation of tests/host, the same call, (c) one CMAC of the same bytes by
- * libtomcrypt's portable C. Each time is the best of many, and the run fails where the two implementations differ. */
+/* Tag, Verify, Report and Replace, measured in one run, as three tables.
+ *
+ * Speed: each time as a ratio to (a) one CMAC of the same bytes by this library's cipher, the source paper's own measure, (b) the second
+ * implementation of tests/host, the same call, (c) one CMAC of the same bytes by libtomcrypt's portable C. Growth: how the time goes with the
+ * number of cards. Each time is the best of many, and the run fails where the two implementations differ. Stack: the bytes that a call uses. */
 #include "../include/gtm.h"
 #include "../tests/host/second.h"
 
@@ -9,14 +11,21 @@
 #include <string.h>
 #include <time.h>
 #include <tomcrypt.h>
+#include <ucontext.h>
 
 uint64_t bench_cmac(const uint8_t *key, size_t key_len, const uint8_t *message, size_t message_len, uint8_t *out, size_t out_len);
 
-enum { ROUNDS = 60 };
+enum { ROUNDS = 60, FEW = 5 };
 
-static uint8_t keys[48], shelf[65536], altered[65536], sheet[GTM_SHEET_MAX], other[GTM_SHEET_MAX], marks[GTM_CARDS_MAX], second[GTM_CARDS_MAX];
-static size_t shelf_len, sheet_len, card_len;
-static unsigned size;
+/* A shelf, the same with some of its cards changed, and the shelf's sheet. */
+struct setting {
+    unsigned size, cards;
+    size_t card_len, shelf_len, sheet_len;
+    uint8_t shelf[65536], altered[65536], sheet[GTM_SHEET_MAX];
+};
+
+static struct setting settings[FEW], *now; /* what the calls below work on */
+static uint8_t keys[48], other[GTM_SHEET_MAX], marks[GTM_CARDS_MAX], second[GTM_CARDS_MAX];
 static int rijndael;
 
 static void need(int ok, const char *what)
@@ -27,54 +36,80 @@ static void need(int ok, const char *what)
     }
 }
 
-/* As many cards as fit of one length, and the sheet. */
-static unsigned lay_out(unsigned code, size_t len)
+/* At most so many cards of one length, as many as fit, and the same with the first of them changed. */
+static void lay_out(struct setting *s, unsigned size, unsigned cards, size_t len, unsigned changed)
 {
-    unsigned n = planes[code].cards;
-    while (7 + n * (2 + len) > sizeof shelf) n--;
-    size = code;
-    card_len = len;
-    memcpy(shelf, "TBS\0\1", 5);
-    shelf[5] = (uint8_t)(n >> 8);
-    shelf[6] = (uint8_t)n;
-    shelf_len = 7;
-    for (unsigned j = 0; j < n; j++) {
-        shelf[shelf_len] = (uint8_t)(len >> 8);
-        shelf[shelf_len + 1] = (uint8_t)len;
-        for (size_t k = 0; k < len; k++) shelf[shelf_len + 2 + k] = (uint8_t)rand();
-        shelf_len += 2 + len;
+    while (7 + cards * (2 + len) > sizeof s->shelf) cards--;
+    s->size = size;
+    s->cards = cards;
+    s->card_len = len;
+    memcpy(s->shelf, "TBS\0\1", 5);
+    s->shelf[5] = (uint8_t)(cards >> 8);
+    s->shelf[6] = (uint8_t)cards;
+    s->shelf_len = 7;
+    for (unsigned j = 0; j < cards; j++) {
+        s->shelf[s->shelf_len] = (uint8_t)(len >> 8);
+        s->shelf[s->shelf_len + 1] = (uint8_t)len;
+        for (size_t k = 0; k < len; k++) s->shelf[s->shelf_len + 2 + k] = (uint8_t)rand();
+        s->shelf_len += 2 + len;
     }
-    sheet_len = 24 + 16 * planes[code].tags;
-    memcpy(altered, shelf, shelf_len);
-    for (unsigned j = 0; j < planes[code].limit && j < n; j++) altered[7 + j * (2 + len) + 2] ^= 1;
-    return n;
+    s->sheet_len = 24 + 16 * planes[size].tags;
+    memcpy(s->altered, s->shelf, s->shelf_len);
+    for (unsigned j = 0; j < changed && j < cards; j++) s->altered[7 + j * (2 + len) + 2] ^= 1;
 }
 
-static void our_cmac(void) { uint8_t mac[16]; need(bench_cmac(keys, 16, shelf, shelf_len, mac, 16) == 1, "cmac"); }
+static void our_cmac(void) { uint8_t mac[16]; need(bench_cmac(keys, 16, now->shelf, now->shelf_len, mac, 16) == 1, "cmac"); }
 
 static void their_cmac(void)
 {
     uint8_t mac[16];
     unsigned long len = 16;
-    need(omac_memory(rijndael, keys, 16, shelf, shelf_len, mac, &len) == CRYPT_OK, "libtomcrypt's cmac");
+    need(omac_memory(rijndael, keys, 16, now->shelf, now->shelf_len, mac, &len) == CRYPT_OK, "libtomcrypt's cmac");
 }
 
-static void tag(void) { need(gtm_tag(keys, 48, size, shelf, shelf_len, sheet, sheet_len) == 0, "tag"); }
-static void verify(void) { need(gtm_verify(keys, 48, shelf, shelf_len, sheet, sheet_len) == 256, "verify"); }
-static void report(void) { need(gtm_report(keys, 48, shelf, shelf_len, sheet, sheet_len, marks, sizeof marks) == 0, "report"); }
-static void report_d(void) { need(gtm_number(gtm_report(keys, 48, altered, shelf_len, sheet, sheet_len, marks, sizeof marks)) == 0, "report"); }
+static void tag(void) { need(gtm_tag(keys, 48, now->size, now->shelf, now->shelf_len, now->sheet, now->sheet_len) == 0, "tag"); }
+static void tag_d(void) { need(gtm_tag(keys, 48, now->size, now->altered, now->shelf_len, other, now->sheet_len) == 0, "tag"); }
+static void verify(void) { need(gtm_verify(keys, 48, now->shelf, now->shelf_len, now->sheet, now->sheet_len) == 256, "verify"); }
+static void verify_d(void) { need(gtm_verify(keys, 48, now->altered, now->shelf_len, now->sheet, now->sheet_len) == 0, "verify"); }
+static void report(void)
+{
+    need(gtm_report(keys, 48, now->shelf, now->shelf_len, now->sheet, now->sheet_len, marks, sizeof marks) == 0, "report");
+}
+static void report_d(void)
+{
+    need(gtm_number(gtm_report(keys, 48, now->altered, now->shelf_len, now->sheet, now->sheet_len, marks, sizeof marks)) == 0, "report");
+}
 static void replace(void)
 {
-    need(gtm_replace(keys, 48, sheet, sheet_len, 1, shelf + 9, card_len, altered + 9, card_len, other, sheet_len) == 0, "replace");
+    const struct setting *s = now;
+    need(gtm_replace(keys, 48, s->sheet, s->sheet_len, 1, s->shelf + 9, s->card_len, s->altered + 9, s->card_len, other, s->sheet_len) == 0, "replace");
 }
 
-static void second_tags(void) { need(second_tag(keys, 48, size, shelf, shelf_len, sheet, sheet_len).number == 0, "second tag"); }
-static void second_verifies(void) { need(second_verify(keys, 48, shelf, shelf_len, sheet, sheet_len).yes, "second verify"); }
-static void second_reports(void) { need(second_report(keys, 48, shelf, shelf_len, sheet, sheet_len, second, sizeof second).number == 0, "second report"); }
-static void second_reports_d(void) { need(second_report(keys, 48, altered, shelf_len, sheet, sheet_len, second, sizeof second).number == 0, "second report"); }
+/* Another old card than the one tagged. */
+static void replace_d(void)
+{
+    const struct setting *s = now;
+    need(gtm_replace(keys, 48, s->sheet, s->sheet_len, 1, s->altered + 9, s->card_len, s->shelf + 9, s->card_len, other, s->sheet_len) == 0, "replace");
+}
+
+static void second_tags(void)
+{
+    need(second_tag(keys, 48, now->size, now->shelf, now->shelf_len, now->sheet, now->sheet_len).number == 0, "second tag");
+}
+static void second_verifies(void) { need(second_verify(keys, 48, now->shelf, now->shelf_len, now->sheet, now->sheet_len).yes, "second verify"); }
+static void second_reports(void)
+{
+    need(second_report(keys, 48, now->shelf, now->shelf_len, now->sheet, now->sheet_len, second, sizeof second).number == 0, "second report");
+}
+static void second_reports_d(void)
+{
+    need(second_report(keys, 48, now->altered, now->shelf_len, now->sheet, now->sheet_len, second, sizeof second).number == 0, "second report");
+}
 static void second_replaces(void)
 {
-    need(second_replace(keys, 48, sheet, sheet_len, 1, shelf + 9, card_len, altered + 9, card_len, other, sheet_len).number == 0, "second replace");
+    const struct setting *s = now;
+    struct result r = second_replace(keys, 48, s->sheet, s->sheet_len, 1, s->shelf + 9, s->card_len, s->altered + 9, s->card_len, other, s->sheet_len);
+    need(r.number == 0, "second replace");
 }
 
 /* Seconds that one call takes. */
@@ -87,21 +122,21 @@ static double once(void (*f)(void), int calls)
     return ((double)(to.tv_sec - from.tv_sec) + (double)(to.tv_nsec - from.tv_nsec) * 1e-9) / calls;
 }
 
-/* Fails unless both implementations write the same. */
-static void agree(unsigned n)
+/* Makes the sheet; fails unless both implementations write the same. */
+static void agree(void)
 {
     static uint8_t ours[GTM_SHEET_MAX];
     tag();
-    memcpy(ours, sheet, sheet_len);
+    memcpy(ours, now->sheet, now->sheet_len);
     second_tags();
-    need(memcmp(ours, sheet, sheet_len) == 0, "the two sheets");
+    need(memcmp(ours, now->sheet, now->sheet_len) == 0, "the two sheets");
     report_d();
     second_reports_d();
-    need(memcmp(marks, second, n) == 0, "the two reports");
+    need(memcmp(marks, second, now->cards) == 0, "the two reports");
     replace();
-    memcpy(ours, other, sheet_len);
+    memcpy(ours, other, now->sheet_len);
     second_replaces();
-    need(memcmp(ours, other, sheet_len) == 0, "the two replacements");
+    need(memcmp(ours, other, now->sheet_len) == 0, "the two replacements");
 }
 
 static const struct { const char *name; void (*ours)(void), (*theirs)(void); } calls[5] = {
@@ -110,36 +145,137 @@ static const struct { const char *name; void (*ours)(void), (*theirs)(void); } c
 
 /* The best of many of each, taken in turns, so that a slow spell of the machine falls on all alike: 0 is our CMAC, 1 libtomcrypt's, then
  * ours and the second implementation's of each call. */
-static void measure(double least[12])
+static void measure(int count, double least[][12])
 {
-    int repeat = shelf_len > 8192 ? 1 : 16;
-    for (int k = 0; k < 12; k++) least[k] = 1e9;
+    for (int q = 0; q < count; q++) {
+        now = &settings[q];
+        agree();
+        for (int k = 0; k < 12; k++) least[q][k] = 1e9;
+    }
     for (int i = 0; i < ROUNDS; i++)
-        for (int k = 0; k < 12; k++) {
-            void (*f)(void) = k == 0 ? our_cmac : k == 1 ? their_cmac : k % 2 == 0 ? calls[k / 2 - 1].ours : calls[k / 2 - 1].theirs;
-            double t = once(f, repeat);
-            if (t < least[k]) least[k] = t;
+        for (int q = 0; q < count; q++)
+            for (int k = 0; k < 12; k++) {
+                void (*f)(void) = k == 0 ? our_cmac : k == 1 ? their_cmac : k % 2 == 0 ? calls[k / 2 - 1].ours : calls[k / 2 - 1].theirs;
+                now = &settings[q];
+                double t = once(f, now->shelf_len > 8192 ? 1 : 16);
+                if (t < least[q][k]) least[q][k] = t;
+            }
+}
+
+static void print_speed(void)
+{
+    static const size_t lengths[3] = {16, 232, 1024};
+    double t[FEW][12];
+    puts("| size | cards | bytes a card | call | to our CMAC | to the second implementation | to libtomcrypt's CMAC |\n|---|---|---|---|---|---|---|");
+    for (unsigned size = 1; size <= 4; size++)
+        for (int q = 0; q < 3; q++) {
+            lay_out(&settings[0], size, planes[size].cards, lengths[q], planes[size].limit);
+            measure(1, t);
+            for (int i = 0; i < 5; i++)
+                printf("| %u | %u | %zu | %s | %.2f | %.2f | %.2f |\n", size, settings[0].cards, lengths[q], calls[i].name, t[0][2 + 2 * i] / t[0][0],
+                       t[0][2 + 2 * i] / t[0][3 + 2 * i], t[0][2 + 2 * i] / t[0][1]);
         }
+}
+
+/* ---- Growth with the number of cards ---- */
+
+static void print_growth(void)
+{
+    static const unsigned cards[FEW] = {1, 17, 68, 136, 273};
+    static const int shown[4] = {2, 4, 6, 10}; /* Tag, Verify, Report with nothing changed, Replace */
+    const int last = FEW - 1;
+    double t[FEW][12];
+    for (int q = 0; q < FEW; q++) lay_out(&settings[q], 4, cards[q], 232, planes[4].limit);
+    measure(FEW, t);
+    puts("\nGrowth, size 4, cards of 232 bytes. A call's time over one CMAC of the same bytes by our cipher, and its time a card over that with 273\n"
+         "cards; for Replace, which is handed one card whatever their number, its time a call over that with 273.\n\n"
+         "| cards | Tag | Tag, a card | Verify | Verify, a card | Report, 0 changed | Report, a card | Replace | Replace, a call |\n"
+         "|---|---|---|---|---|---|---|---|---|");
+    for (int q = 0; q < FEW; q++) {
+        printf("| %u |", cards[q]);
+        for (int i = 0; i < 4; i++) {
+            double a = t[q][shown[i]], b = t[last][shown[i]];
+            printf(" %.2f | %.2f |", a / t[q][0], i < 3 ? a / cards[q] / (b / cards[last]) : a / b);
+        }
+        puts("");
+    }
+    printf("\nWhat a call costs whatever the number of cards, as that of so many of these cards:");
+    for (int i = 0; i < 3; i++) {
+        double a = t[0][shown[i]], card = (t[last][shown[i]] - a) / (cards[last] - cards[0]);
+        printf(" %s %.0f%s", calls[shown[i] / 2 - 1].name, a / card - 1, i < 2 ? ";" : "\n");
+    }
+}
+
+/* ---- Stack ---- */
+
+static uint8_t stack[1 << 18] __attribute__((aligned(64))); /* far more than a call uses */
+static ucontext_t outside, inside;
+static void (*called)(void);
+static uint8_t *top;
+
+static void enter(void)
+{
+    top = __builtin_frame_address(0);
+    called();
+}
+
+/* Runs a call on a stack of its own that is filled with one byte; returns how far below its start another byte was found. */
+static size_t depth(void (*f)(void), uint8_t pattern)
+{
+    size_t k = 0;
+    memset(stack, pattern, sizeof stack);
+    need(getcontext(&inside) == 0, "getcontext");
+    inside.uc_stack.ss_sp = stack;
+    inside.uc_stack.ss_size = sizeof stack;
+    inside.uc_link = &outside;
+    called = f;
+    makecontext(&inside, enter, 0);
+    need(swapcontext(&outside, &inside) == 0, "swapcontext");
+    while (stack[k] == pattern) k++;
+    need(k > 0, "stack");
+    return (size_t)(top - (stack + k));
+}
+
+/* With two patterns, for a byte that the call leaves may be the pattern's. */
+static size_t used(void (*f)(void))
+{
+    size_t a = depth(f, 0xa5), b = depth(f, 0x5a);
+    return a > b ? a : b;
+}
+
+static void print_stack(void)
+{
+    static const struct { const char *name; void (*intact)(void), (*altered)(void); } rows[4] = {
+        {"Tag", tag, tag_d}, {"Verify", verify, verify_d}, {"Report", report, report_d}, {"Replace", replace, replace_d}};
+    size_t largest = 0;
+    for (int q = 0; q < 2; q++) {
+        now = &settings[q];
+        lay_out(now, 4, planes[4].cards, 238, q == 0 ? planes[4].limit : planes[4].cards);
+        tag();
+    }
+    printf("\nStack, bytes, size 4, a shelf of %zu. From where the bench calls down to the deepest byte written: the arguments handed\n"
+           "over there and a few words of the bench itself are included.\n\n"
+           "| call | intact | %u cards altered | all altered |\n|---|---|---|---|\n", now->shelf_len, planes[4].limit);
+    for (int i = 0; i < 4; i++) {
+        size_t bytes[3];
+        for (int k = 0; k < 3; k++) {
+            now = &settings[k == 2];
+            bytes[k] = used(k == 0 ? rows[i].intact : rows[i].altered);
+            if (bytes[k] > largest) largest = bytes[k];
+        }
+        printf("| %s | %zu | %zu | %zu |\n", rows[i].name, bytes[0], bytes[1], bytes[2]);
+    }
+    printf("\nThe largest stack that one call uses: %zu bytes\n", largest);
 }
 
 int main(void)
 {
-    static const size_t lengths[3] = {16, 232, 1024};
     rijndael = register_cipher(&rijndael_desc);
     need(second_start() == 0 && second_check() == 0 && rijndael >= 0, "start");
     srand(1);
     for (size_t i = 0; i < sizeof keys; i++) keys[i] = (uint8_t)rand();
-    puts("| size | cards | bytes a card | call | to our CMAC | to the second implementation | to libtomcrypt's CMAC |\n|---|---|---|---|---|---|---|");
-    for (unsigned code = 1; code <= 4; code++)
-        for (int q = 0; q < 3; q++) {
-            unsigned n = lay_out(code, lengths[q]);
-            double t[12];
-            agree(n);
-            tag();
-            measure(t);
-            for (int i = 0; i < 5; i++)
-                printf("| %u | %u | %zu | %s | %.2f | %.2f | %.2f |\n", code, n, lengths[q], calls[i].name, t[2 + 2 * i] / t[0],
-                       t[2 + 2 * i] / t[3 + 2 * i], t[2 + 2 * i] / t[1]);
-        }
+    print_speed();
+    print_growth();
+    print_stack();
     return 0;
 }
