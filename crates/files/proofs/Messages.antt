@@ -18,7 +18,7 @@ use Rattle.cipher.proofs.Xor.{same-true, same-eq}
 use Rattle.files.specs.declared.Refusal.{Refusal}
 use Rattle.files.specs.Refusals.{refusal, none, unless, first}
 use Rattle.files.specs.Message.{number16, prefix, count, behind, start, size, refuse3, fits, refuseItems, refuse5, refuse8, fetchRefusal, fetchStart, fetchSize, PartOf}
-use Rattle.files.proofs.Passing.{first-here, first-later, rest-passes, unless-true, unless-false, unless-passes, and-left, and-right, and-true, and-false-l, and-false-r, Plain, plain-unless, plain-first}
+use Rattle.files.proofs.Passing.{first-here, first-later, rest-passes, unless-true, unless-false, unless-passes, and-left, and-right, and-true, and-false-l, and-false-r, Plain, plain-unless, plain-first, number-of}
 
 -- ---- numbers
 
@@ -208,9 +208,6 @@ plain5 s =
     (plain-items s (count s), (plain-unless (eqb (behind s (count s)) (length s)) 5 (count s + 1) (omega arith), tt))
 
 -- ---- Fetch
-
-number-of : (r q : Refusal) → r ≡ q → r .number ≡ 0 → q .number ≡ 0
-number-of r q e h = ap (λ (x : Refusal). x .number) (sym e) ∙ h
 
 module _ (s : List ℕ) (j : ℕ) (head : Refusal) (eh : head ≡ refuse3 s) where
   pub fetch-header : (head .number ≡ 0 → ⊥) → head ≡ fetchRefusal s j

@@ -1,11 +1,11 @@
 -- Refusals: what passes is none, and the first of a list.
-use mathlib.Core.Path.{_≡_, refl, ap, ap₂, _∙_}
+use mathlib.Core.Path.{_≡_, refl, sym, ap, ap₂, _∙_}
 use mathlib.Core.Bool.{Bool, true, false, _&&_}
 use mathlib.Core.List.{List, [], _∷_}
 use Prim.Native.Nat.{ℕ, _<_}
 use native.Mathlib.Omega.{arith}
 use lib.Dec.{eqb}
-use borrow.Author.Tests.{eqb-true, eqb-false, ne-eqb}
+use borrow.Author.Tests.{eqb-true, eqb-false, eq-eqb, ne-eqb}
 use Rattle.cipher.specs.Block.{if_then_else_}
 use Rattle.files.specs.declared.Refusal.{Refusal}
 use Rattle.files.specs.Refusals.{refusal, none, unless, passes, first}
@@ -20,9 +20,13 @@ pub first-later : (r : Refusal) (rest : List Refusal) → r ≡ none → first (
 unfolding first
 first-later r rest e = ap (λ (x : Refusal). if passes x then first rest else x) e
 
-pub first-one : (r : Refusal) → r .number ≡ 0 → r ≡ none → first (r ∷ []) ≡ none
+pub first-none : (r : Refusal) → r ≡ none → first (r ∷ []) ≡ none
 unfolding first
-first-one r h e = first-later r [] e
+first-none r e = first-later r [] e
+
+pub first-past : (r : Refusal) (rest : List Refusal) → r .number ≡ 0 → first (r ∷ rest) ≡ first rest
+unfolding first
+first-past r rest h = rw (eq-eqb (r .number) 0 h) refl
 
 -- what is left of a list that passes
 pub rest-passes : (r : Refusal) (rest : List Refusal) → first (r ∷ rest) .number ≡ 0 → (r .number ≡ 0) × (first rest .number ≡ 0)
@@ -63,6 +67,27 @@ pub plain-first : (l : List Refusal) → AllPlain l → Plain (first l)
 unfolding first
 plain-first [] a h = refl
 plain-first (r ∷ rest) a h = let p = rest-passes r rest h in first-later r rest (a .0 (p .0)) ∙ plain-first rest (a .1) (p .1)
+
+-- ---- r is the refusal that the code has, q the one that the contract names
+
+pub number-of : (r q : Refusal) → r ≡ q → r .number ≡ 0 → q .number ≡ 0
+number-of r q e h = ap (λ (x : Refusal). x .number) (sym e) ∙ h
+
+-- a check that does not pass is the first that applies
+pub stop : (r q : Refusal) (rest : List Refusal) → r ≡ q → (r .number ≡ 0 → ⊥) → r ≡ first (q ∷ rest)
+stop r q rest e h = e ∙ sym (first-here q rest (λ z. h (number-of q r (sym e) z)))
+
+-- one that passes leaves the rest
+pub skip : (r q : Refusal) (rest : List Refusal) → r ≡ q → r .number ≡ 0 → first (q ∷ rest) ≡ first rest
+skip r q rest e h = first-past q rest (number-of r q e h)
+
+-- what a call leaves where it is done, and where it is refused
+module _ {A : Type 0} (r q : Refusal) (e : r ≡ q) (done left : A) where
+  pub given : r .number ≡ 0 → done ≡ (if passes q then done else left)
+  given h = ap (λ (t : Bool). if t then done else left) (sym (eq-eqb (q .number) 0 (number-of r q e h)))
+
+  pub kept : (r .number ≡ 0 → ⊥) → left ≡ (if passes q then done else left)
+  kept h = ap (λ (t : Bool). if t then done else left) (sym (ne-eqb (q .number) 0 (λ z. h (number-of q r (sym e) z))))
 
 -- ---- both of two tests
 

@@ -1,13 +1,12 @@
 -- What was packed is read back, and what each function packs.
-use mathlib.Core.Path.{_≡_, refl, sym, ap, ap₂, _∙_, subst}
+use mathlib.Core.Path.{_≡_, refl, sym, ap, _∙_, subst}
 use mathlib.Core.Bool.{Bool, true, false}
 use mathlib.Core.List.{List}
 use Prim.Native.Nat.{ℕ, _+_, _*_, _/_, _%_, _≤_, _<_}
 use native.Mathlib.Omega.{arith}
 use lib.Dec.{eqb}
 use lib.ListN.{length}
-use borrow.Author.Tests.{eq-eqb, ne-eqb, eqb-true, eqb-false}
-use Rattle.cipher.specs.Block.{if_then_else_}
+use borrow.Author.Tests.{eqb-true, eqb-false}
 use Rattle.incidence.specs.Count.{bit}
 use Rattle.incidence.specs.Report.{named, numberNamed, number}
 use Rattle.incidence.specs.declared.Answer.{Answer}
@@ -19,11 +18,10 @@ use Rattle.files.specs.declared.Refusal.{Refusal}
 use Rattle.files.specs.Message.{count}
 use Rattle.files.specs.TagFile.{codeOf}
 use Rattle.tagging.specs.Tagging.{keysIn}
+use Rattle.files.proofs.Passing.{given, kept}
 use Rattle.scheme.specs.Calls.{reportRefusal, agrees, reportNamed}
 use Rattle.scheme.specs.Claim.{Claim}
 use Rattle.scheme.proofs.Checking.{Reportable, reportable, file-count}
-use Rattle.scheme.proofs.Filing.{if-done}
-use Rattle.files.specs.Refusals.{passes}
 use Rattle.firmware.specs.Packed.{packed, packedYes, packedReport, numberIn, placeIn, yesIn, answerIn, namedIn, rowsIn}
 
 -- ---- refusals
@@ -56,28 +54,22 @@ number-tells Beyond Intact e = absurd (omega arith)
 number-tells Beyond Named e = absurd (omega arith)
 number-tells Beyond Beyond e = refl
 
-done : {A : Type 0} (r : Refusal) (a b : A) → r .number ≡ 0 → a ≡ (if passes r then a else b)
-done r a b h = ap (λ (t : Bool). if t then a else b) (sym (eq-eqb (r .number) 0 h))
-
-left : {A : Type 0} (r : Refusal) (a b : A) → (r .number ≡ 0 → ⊥) → b ≡ (if passes r then a else b)
-left r a b h = ap (λ (t : Bool). if t then a else b) (sym (ne-eqb (r .number) 0 h))
-
 pub yes-done : (r : Refusal) (t : Bool) → r .number ≡ 0 → 256 * bit t ≡ packedYes r t
 unfolding packedYes
-yes-done r t h = done r (256 * bit t) (packed r) h
+yes-done r t h = given r r refl (256 * bit t) (packed r) h
 
 pub yes-refused : (r : Refusal) (t : Bool) → (r .number ≡ 0 → ⊥) → packed r ≡ packedYes r t
 unfolding packedYes
-yes-refused r t h = left r (256 * bit t) (packed r) h
+yes-refused r t h = kept r r refl (256 * bit t) (packed r) h
 
 module _ (r : Refusal) (said : Answer) (names rows : ℕ) where
   pub report-done : r .number ≡ 0 → 256 * number said + 65536 * (names % 65536) + 4294967296 * (rows % 65536) ≡ packedReport r said names rows
   unfolding packedReport
-  report-done h = done r (256 * number said + 65536 * (names % 65536) + 4294967296 * (rows % 65536)) (packed r) h
+  report-done h = given r r refl (256 * number said + 65536 * (names % 65536) + 4294967296 * (rows % 65536)) (packed r) h
 
   pub report-refused : (r .number ≡ 0 → ⊥) → packed r ≡ packedReport r said names rows
   unfolding packedReport
-  report-refused h = left r (256 * number said + 65536 * (names % 65536) + 4294967296 * (rows % 65536)) (packed r) h
+  report-refused h = kept r r refl (256 * number said + 65536 * (names % 65536) + 4294967296 * (rows % 65536)) (packed r) h
 
   -- number 0 is read exactly where there is no refusal
   pub report-passes : r .number < 256 → numberIn (packedReport r said names rows) ≡ 0 → r .number ≡ 0
@@ -127,7 +119,7 @@ unfolding reportNamed
 claim-packed keys s f before marks r a names rows w er en ew z D e said es =
     let h = z e in
     let R = reportable keys s f (length before) r er h in
-    let n = en ∙ sym (if-done r (reportRefusal keys s f (length before)) er _ 0 h) in
+    let n = en ∙ sym (given r (reportRefusal keys s f (length before)) er _ 0 h) in
     let b = ap namedIn ew ∙ named-back r a names rows h (subst (λ (x : ℕ). x < 65536) (sym n) (names-few keys s f before R)) in
     let t = number-tells said a (es ∙ ap answerIn ew ∙ answer-back r a names rows h) in
     subst (λ (x : Answer). Claim keys s f marks (namedIn w) x) (sym t) (subst (λ (x : ℕ). Claim keys s f marks x a) (sym b) (D h))

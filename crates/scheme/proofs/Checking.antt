@@ -1,5 +1,5 @@
 -- A chain of checks gives the first refusal that applies, and what passes them all is known.
-use mathlib.Core.Path.{_≡_, refl, sym, ap, _∙_}
+use mathlib.Core.Path.{_≡_, refl, sym, _∙_}
 use mathlib.Core.Bool.{Bool, true, false, _&&_}
 use mathlib.Core.List.{List, [], _∷_, _++_}
 use Prim.Native.Nat.{ℕ, _≤_}
@@ -17,21 +17,13 @@ use Rattle.files.specs.Refusals.{none, passes, first}
 use Rattle.files.specs.Message.{count, refuse3, refuse5, refuse8}
 use Rattle.files.specs.TagFile.{tagPrefix, fileSize, codeOf, countOf, countFits, bodyOf, macOf, refuse6, refuse20}
 use Rattle.files.specs.Handed.{refuse1, refuse2, refuse4, refuse7, refuse9}
-use Rattle.files.proofs.Passing.{first-here, first-later, rest-passes, unless-passes, Plain, plain-unless, plain-first, and-left, and-right}
+use Rattle.files.proofs.Passing.{first-here, rest-passes, unless-passes, Plain, plain-unless, plain-first, number-of, and-left, and-right}
 use Rattle.files.proofs.Messages.{plain3, plain5, headed}
 use Rattle.files.proofs.Accepted.{Formed, formed}
 use Rattle.tagging.specs.Tagging.{keysIn}
 use Rattle.scheme.specs.Calls.{refuse21, tagRefusal, verifyRefusal, reportRefusal, replaceRefusal}
 
 -- ---- a chain
-
--- the check that does not pass is the first that applies
-pub stop : (r R : Refusal) (rest : List Refusal) → r ≡ R → (r .number ≡ 0 → ⊥) → r ≡ first (R ∷ rest)
-stop r R rest e h = e ∙ sym (first-here R rest (λ z. h (ap (λ (x : Refusal). x .number) e ∙ z)))
-
--- one that passes leaves the rest
-pub skip : (r R : Refusal) (rest : List Refusal) → Plain R → r ≡ R → r .number ≡ 0 → first (R ∷ rest) ≡ first rest
-skip r R rest p e h = first-later R rest (p (ap (λ (x : Refusal). x .number) (sym e) ∙ h))
 
 pub last : (r R : Refusal) → Plain R → r ≡ R → r ≡ first (R ∷ [])
 unfolding first
@@ -108,9 +100,6 @@ plain-verify keys s f =
     (plain1 (length keys), (plain3 s, (plain5 s, (plain6 f, (plain20 (keysIn keys .seal) f, (plain21 s f, tt))))))
 
 -- ---- what passes is known
-
-number-of : (r R : Refusal) → r ≡ R → r .number ≡ 0 → R .number ≡ 0
-number-of r R e h = ap (λ (x : Refusal). x .number) (sym e) ∙ h
 
 pub keys-long : (n : ℕ) (r : Refusal) → r ≡ refuse1 n → r .number ≡ 0 → n ≡ 48
 unfolding refuse1

@@ -6,13 +6,10 @@ use Prim.Native.Nat.{ℕ, suc, _+_, _-_, _*_, _≤_, _<_}
 use native.Mathlib.Omega.{arith}
 use lib.ListN.{length, take, drop, length-append, length-take, length-drop, take-append-drop}
 use lib.Seq.{take-at, drop-at}
-use borrow.Author.Tests.{eq-eqb, ne-eqb}
 use Rattle.cipher.specs.Block.{if_then_else_, _⊕_, slot, listOf, same}
 use Rattle.cipher.proofs.Xor.{same-true, same-eq}
 use Rattle.cipher.proofs.Slots.{slot-length, slot-front, listOf-length, listOf-ext, slot-listOf}
 use Rattle.sizes.specs.Sizes.{familyOf}
-use Rattle.files.specs.declared.Refusal.{Refusal}
-use Rattle.files.specs.Refusals.{passes}
 use Rattle.files.specs.Message.{count, item}
 use Rattle.files.specs.TagFile.{fileSize, codeOf, countOf, tagsIn}
 use Rattle.files.proofs.Accepted.{Formed}
@@ -23,15 +20,6 @@ use Rattle.tagging.specs.declared.Keys.{Keys}
 use Rattle.tagging.specs.Tagging.{keysIn, tagSum, fileOf, tagFile}
 use Rattle.tagging.proofs.Writing.{tagsOf-length, file-same}
 use Rattle.scheme.specs.Calls.{tagsFor, sumTagged, replacedSum}
-
--- ---- done, or refused
-
-module _ {A : Type 0} (r R : Refusal) (e : r ≡ R) (done left : A) where
-  pub if-done : r .number ≡ 0 → done ≡ (if passes R then done else left)
-  if-done h = ap (λ (b : Bool). if b then done else left) (sym (ap passes (sym e) ∙ eq-eqb (r .number) 0 h))
-
-  pub if-refused : (r .number ≡ 0 → ⊥) → left ≡ (if passes R then done else left)
-  if-refused h = ap (λ (b : Bool). if b then done else left) (sym (ap passes (sym e) ∙ ne-eqb (r .number) 0 h))
 
 -- ---- Tag
 

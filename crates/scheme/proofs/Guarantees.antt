@@ -3,7 +3,7 @@
 -- every item, none, or says "beyond" of an unchanged message.
 use mathlib.Core.Path.{_≡_, refl, sym, ap, ap₂, _∙_}
 use mathlib.Core.Bool.{Bool, true, false}
-use mathlib.Core.List.{List, [], _∷_, _++_}
+use mathlib.Core.List.{List, _++_}
 use mathlib.Core.Logic.{_↔_}
 use Prim.Native.Nat.{ℕ, _≤_, _<_}
 use native.Mathlib.Omega.{arith}
@@ -21,26 +21,20 @@ use Rattle.incidence.proofs.Booleans.{not-both}
 use Rattle.incidence.proofs.Counting.{Found, found}
 use Rattle.incidence.proofs.Sums.{rowSum-same, rowSum-change}
 use Rattle.sizes.specs.Sizes.{familyOf}
-use Rattle.files.specs.declared.Refusal.{Refusal}
-use Rattle.files.specs.Refusals.{none, first}
+use Rattle.files.specs.Refusals.{none}
 use Rattle.files.specs.Message.{count, item, start, size, refuse3, refuse5}
 use Rattle.files.specs.TagFile.{fileSize, codeOf, countOf, tagsIn, countFits, refuse6, refuse20}
 use Rattle.files.specs.Handed.{refuse1, refuse7}
-use Rattle.files.proofs.Passing.{first-later, unless-true, and-true}
+use Rattle.files.proofs.Passing.{first-later, first-none, unless-true, given, and-true}
 use Rattle.keyed.specs.Keyed.{itemHash}
 use Rattle.tagging.specs.Tagging.{keysIn, hashes, tagSum, fileOf, tagFile}
 use Rattle.tagging.proofs.Writing.{file-same}
 use Rattle.scheme.specs.Calls.{refuse21, tagRefusal, verifyRefusal, tagsFor, verifyYes, reportRefusal, sumTagged, replaceRefusal, replacedSum, replacedItem, replaceWrites}
 use Rattle.scheme.specs.Claim.{changed, NoRowCancels, marked, Claim}
 use Rattle.scheme.proofs.Checking.{taggable}
-use Rattle.scheme.proofs.Filing.{if-done}
 use Rattle.scheme.proofs.Unaltered.{key-blocks, hashes-long, code-is, count-is, tags-are, accepted, sums-back}
 
 -- ---- nothing is refused
-
-first-none : (r : Refusal) → r ≡ none → first (r ∷ []) ≡ none
-unfolding first
-first-none r e = first-later r [] e
 
 -- keys, message and file that pass each check by itself
 verify-passes : (keys s f : List ℕ) → length keys ≡ 48 → refuse3 s ≡ none → refuse5 s ≡ none → refuse6 f ≡ none → refuse20 (keysIn keys .seal) f ≡ none
@@ -84,7 +78,7 @@ tag-verifies keys c s room b m e =
     let a = accepted K B c (count s) fit (item s) bytes in
     let v = verify-passes keys s f (t .keys48) (t .message .head) (t .message .whole) (a .0) (a .1) (sym (count-is K B c (count s) fit (item s) bytes)) in (
       v,
-      sym (if-done none (verifyRefusal keys s f) (sym v) _ _ refl)
+      sym (given none (verifyRefusal keys s f) (sym v) _ _ refl)
           ∙ same-eq _ _ (ap (λ (x : ℕ). tagsFor K x s) (code-is K B c (count s) fit (item s) bytes) ∙ sym (tags-are K B c (count s) fit (item s) bytes)),
     )
 
@@ -92,7 +86,7 @@ tag-verifies keys c s room b m e =
 pub verify-yes : (keys s f : List ℕ) → verifyRefusal keys s f ≡ none → (verifyYes keys s f ≡ true) ↔ (tagsFor (keysIn keys) (codeOf f) s ≡ tagsIn f)
 unfolding verifyYes
 verify-yes keys s f e =
-    let d = if-done none (verifyRefusal keys s f) (sym e) (same (tagsFor (keysIn keys) (codeOf f) s) (tagsIn f)) false refl in
+    let d = given none (verifyRefusal keys s f) (sym e) (same (tagsFor (keysIn keys) (codeOf f) s) (tagsIn f)) false refl in
     ((λ y. same-true _ _ (d ∙ y)), (λ y. sym d ∙ same-eq _ _ y))
 
 -- ---- Replace
@@ -147,7 +141,7 @@ module _ (keys : List ℕ) (b : Bytes keys) (h : length keys ≡ 48) (c n : ℕ)
       let K = keysIn keys in
       let B = key-blocks keys b h in
       let f = tagFile K c n items in
-      sym (if-done none (replaceRefusal keys f j (items j) new (length out)) (sym e) _ _ refl)
+      sym (given none (replaceRefusal keys f j (items j) new (length out)) (sym e) _ _ refl)
       ∙ ap₂ (λ (x y : ℕ). fileOf K x y (replacedSum K f j (items j) new) ++ drop (fileSize x) out) (code-is K B c n fit items bytes) (count-is K B c n fit items bytes)
       ∙ ap (λ (x : List ℕ). x ++ drop (fileSize c) out) (file-same K c n (replacedSum K f j (items j) new) (tagSum K c (replacedItem items j new) n) sums-replaced)
 

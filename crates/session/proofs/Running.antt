@@ -5,7 +5,7 @@ use mathlib.Core.Path.{_≡_, refl, sym, ap, _∙_, subst}
 use mathlib.Core.Bool.{true}
 use mathlib.Core.List.{List, _++_}
 use mathlib.Core.Logic.{_⊎_, inl, inr}
-use Prim.Native.Nat.{ℕ, zero, suc, _+_, _-_, _≤_, _<_}
+use Prim.Native.Nat.{ℕ, zero, suc, _+_, _≤_, _<_}
 use native.Mathlib.Nat.{le-of-suc-le-suc, eq-or-lt-of-le}
 use native.Mathlib.Numerals.{add-one}
 use native.Mathlib.Omega.{arith}
@@ -20,7 +20,7 @@ use Rattle.sizes.proofs.Laws.{tags-few}
 use Rattle.files.specs.Refusals.{refusal, none, first}
 use Rattle.files.specs.TagFile.{fileSize, countFits}
 use Rattle.files.specs.Handed.{refuse7, refuse9}
-use Rattle.files.proofs.Passing.{unless-true, unless-false, and-left, and-true}
+use Rattle.files.proofs.Passing.{unless-true, unless-false, and-left, and-true, given}
 use Rattle.keyed.specs.Keyed.{itemHash}
 use Rattle.sums.specs.Adding.{sumIn, Holds}
 use Rattle.tagging.specs.Tagging.{keysIn, hashes, tagSum, fileOf, tagFile}
@@ -29,7 +29,7 @@ use Rattle.tagging.proofs.Writing.{file-same}
 use Rattle.session.specs.declared.Session.{Session}
 use Rattle.session.specs.Session.{closed, isOpen, refuse22, refuse23, refuse24, beginRefusal, beginGives, putRefusal, addedToTags, withItem, putGives, closeRefusal, closeGives, closeWrites, after}
 use Rattle.session.proofs.Carried.{tags-added}
-use Rattle.session.proofs.Stepping.{first-same, none-of, given, begin-tells, put-tells}
+use Rattle.session.proofs.Stepping.{first-same, none-of, begin-tells, put-tells}
 
 module _ (keys : List ℕ) (c n : ℕ) (items : ℕ → List ℕ) where
   -- Begin and the first k puts pass: they refuse nothing

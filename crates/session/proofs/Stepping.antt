@@ -1,21 +1,21 @@
 -- One step: what its refusals tell of a session that passes them, and what it gives.
-use mathlib.Core.Path.{_≡_, refl, sym, ap, _∙_}
-use mathlib.Core.Bool.{Bool, true, _&&_}
+use mathlib.Core.Path.{_≡_}
+use mathlib.Core.Bool.{true, _&&_}
 use mathlib.Core.List.{List, [], _∷_}
 use Prim.Native.Nat.{ℕ, _+_, _≤_, _<_}
 use native.Mathlib.Omega.{arith}
 use lib.Dec.{eqb, leb, ltb}
 use lib.ListN.{length}
-use borrow.Author.Tests.{eqb-true, eq-eqb, ne-eqb, leb-true, ltb-true}
-use Rattle.cipher.specs.Block.{if_then_else_, zeros}
+use borrow.Author.Tests.{eqb-true, leb-true, ltb-true}
+use Rattle.cipher.specs.Block.{zeros}
 use Rattle.incidence.specs.Count.{inside}
 use Rattle.incidence.proofs.Counting.{inside-low, inside-high}
 use Rattle.sizes.specs.Sizes.{known, familyOf}
 use Rattle.files.specs.declared.Refusal.{Refusal}
-use Rattle.files.specs.Refusals.{none, passes, first}
+use Rattle.files.specs.Refusals.{none, first}
 use Rattle.files.specs.TagFile.{fileSize, countFits}
 use Rattle.files.specs.Handed.{refuse1, refuse2, refuse4, refuse7, refuse9}
-use Rattle.files.proofs.Passing.{rest-passes, unless-passes, and-left, and-right}
+use Rattle.files.proofs.Passing.{rest-passes, unless-passes, number-of, and-left, and-right}
 use Rattle.keyed.specs.Keyed.{itemHash}
 use Rattle.tagging.specs.declared.Keys.{Keys}
 use Rattle.tagging.specs.Tagging.{keysIn}
@@ -23,10 +23,6 @@ use Rattle.session.specs.declared.Session.{Session}
 use Rattle.session.specs.Session.{isOpen, refuse22, refuse23, refuse24, beginRefusal, putRefusal, addedToTags, withItem, closeRefusal}
 
 -- ---- the first of three
-
-pub first-past : (r : Refusal) (rest : List Refusal) → r .number ≡ 0 → first (r ∷ rest) ≡ first rest
-unfolding first
-first-past r rest h = rw (eq-eqb (r .number) 0 h) refl
 
 pub first-same : (a b d a′ b′ d′ : Refusal) → a ≡ a′ → b ≡ b′ → d ≡ d′ → first (a ∷ b ∷ d ∷ []) ≡ first (a′ ∷ b′ ∷ d′ ∷ [])
 first-same a b d a′ b′ d′ ea eb ed = λ i. first (ea i ∷ eb i ∷ ed i ∷ [])
@@ -41,18 +37,6 @@ all-pass a b d h =
     let q = rest-passes b (d ∷ []) (p .1) in
     (p .0, q .0, rest-passes d [] (q .1) .0)
 
--- ---- r is the refusal that the code has, q the one that the contract names: what is given where it passes, and where it does not
-
-number-is : (r q : Refusal) → r ≡ q → q .number ≡ r .number
-number-is r q e = ap (λ (x : Refusal). x .number) (sym e)
-
-module _ {A : Type 0} (r q : Refusal) (e : r ≡ q) (a b : A) where
-  pub given : r .number ≡ 0 → a ≡ (if passes q then a else b)
-  given h = ap (λ (t : Bool). if t then a else b) (sym (eq-eqb (q .number) 0 (number-is r q e ∙ h)))
-
-  pub kept : (r .number ≡ 0 → ⊥) → b ≡ (if passes q then a else b)
-  kept h = ap (λ (t : Bool). if t then a else b) (sym (ne-eqb (q .number) 0 (λ (z : q .number ≡ 0). h (sym (number-is r q e) ∙ z))))
-
 -- ---- what a step that passes tells
 
 pub record Begins (keys : List ℕ) (c n : ℕ) : Type 0 where
@@ -64,7 +48,7 @@ pub record Begins (keys : List ℕ) (c n : ℕ) : Type 0 where
 pub begin-tells : (keys : List ℕ) (c n : ℕ) (r : Refusal) → r ≡ beginRefusal keys c n → r .number ≡ 0 → Begins keys c n
 unfolding beginRefusal refuse1 refuse2 refuse4
 begin-tells keys c n r e h =
-    let p = all-pass (refuse1 (length keys)) (refuse2 c) (refuse4 c n) (number-is r _ e ∙ h) in
+    let p = all-pass (refuse1 (length keys)) (refuse2 c) (refuse4 c n) (number-of r _ e h) in
     let t = unless-passes (inside (familyOf c .items) n) 4 0 (omega arith) (p .2) in
     record {
       long = eqb-true (length keys) 48 (unless-passes (eqb (length keys) 48) 1 0 (omega arith) (p .0));
@@ -88,7 +72,7 @@ pub record Puts (s : Session) : Type 0 where
 pub put-tells : (s : Session) (item : List ℕ) (r : Refusal) → r ≡ putRefusal s item → r .number ≡ 0 → Puts s
 unfolding putRefusal refuse22
 put-tells s item r e h =
-    let p = all-pass (refuse24 s) (refuse22 s) (refuse9 (length item) 0) (number-is r _ e ∙ h) in
+    let p = all-pass (refuse24 s) (refuse22 s) (refuse9 (length item) 0) (number-of r _ e h) in
     record { code = open-tells s (p .0) .0; more = ltb-true _ _ (unless-passes (ltb (s .taken) (s .count)) 22 0 (omega arith) (p .1)) }
 
 pub record Closes (s : Session) (out : List ℕ) : Type 0 where
@@ -99,7 +83,7 @@ pub record Closes (s : Session) (out : List ℕ) : Type 0 where
 pub close-tells : (s : Session) (out : List ℕ) (r : Refusal) → r ≡ closeRefusal s out → r .number ≡ 0 → Closes s out
 unfolding closeRefusal refuse7
 close-tells s out r e h =
-    let p = all-pass (refuse24 s) (refuse23 s) (refuse7 (fileSize (s .code)) (length out)) (number-is r _ e ∙ h) in
+    let p = all-pass (refuse24 s) (refuse23 s) (refuse7 (fileSize (s .code)) (length out)) (number-of r _ e h) in
     let o = open-tells s (p .0) in
     record { code = o .0; fits = o .1; room = leb-true _ _ (unless-passes (leb (fileSize (s .code)) (length out)) 7 0 (omega arith) (p .2)) }
 

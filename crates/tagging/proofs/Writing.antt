@@ -9,6 +9,7 @@ use Rattle.cipher.specs.Block.{slot, listOf}
 use Rattle.cipher.specs.Number.{bigEndian}
 use Rattle.cipher.specs.Cmac.{cmac}
 use Rattle.cipher.proofs.Slots.{listOf-length, listOf-ext}
+use Rattle.cipher.proofs.Laws.{cmac-length}
 use Rattle.sizes.specs.Sizes.{familyOf}
 use Rattle.files.specs.TagFile.{tagPrefix, header, body, sealed, fileSize}
 use Rattle.keyed.specs.Keyed.{tagOf, tagsOf}
@@ -78,3 +79,13 @@ unfolding fileOf
 file-same keys c n a b h =
     ap (λ (t : List ℕ). sealed (keys .seal) (body c n t))
     (listOf-ext _ _ (familyOf c .tags) (λ k l. ap (tagOf (keys .tag) (suc k)) (h (suc k) (omega arith) (omega arith))))
+
+pub file-length : (keys : Keys) (c n : ℕ) (sum : ℕ → List ℕ) → length (keys .tag) ≡ 16 → length (keys .seal) ≡ 16 → length (fileOf keys c n sum) ≡ fileSize c
+unfolding fileOf sealed body fileSize
+file-length keys c n sum ht hs =
+    let tags = listOf (λ k. tagOf (keys .tag) (suc k) (sum (suc k))) (familyOf c .tags) in
+    let t = listOf-length (λ k. tagOf (keys .tag) (suc k) (sum (suc k))) (familyOf c .tags) (λ k l. tagOf-length (keys .tag) ht k (sum (suc k))) in
+    let h = header-length c n in
+    let b = length-append (header c n) tags in
+    let m = cmac-length (keys .seal) hs (body c n tags) in
+    length-append (body c n tags) (cmac (keys .seal) (body c n tags)) ∙ omega (arith, t, h, b, m)

@@ -1,9 +1,5 @@
 -- What the call says, packed, and demand 3 of it (Packing).
-use mathlib.Core.Path.{ap, ap₂, _∙_}
-use Prim.Native.Nat.{ℕ}
-use Rattle.incidence.specs.declared.Answer.{Answer}
-use Rattle.files.specs.declared.Refusal.{Refusal}
-use Rattle.firmware.specs.Packed.{packedReport}
+use mathlib.Core.Path.{_∙_}
 use Rattle.firmware.proofs.Packing.{packed-same, claim-packed}
 use borrow.Author.Needs.{needs}
 use Rattle.firmware.proofs.gtm_report.Statement.{statement}

@@ -2,7 +2,7 @@
 use mathlib.Core.Path.{sym, _∙_, ap}
 use Rattle.files.specs.declared.Refusal.{Refusal}
 use Rattle.scheme.specs.Calls.{replaceWrites}
-use Rattle.scheme.proofs.Filing.{if-done, if-refused}
+use Rattle.files.proofs.Passing.{given, kept}
 use borrow.Author.Needs.{needs}
 use Rattle.scheme.proofs.replace.Statement.{statement}
 use Rattle.scheme.proofs.replace.Tie as tie
@@ -12,7 +12,7 @@ replace-refusal-requires c κs = search needs
 
 returns : tie.Need-returns
 unfolding replaceWrites
-returns c = (c .before .before .replace-refusal .ensures, if-refused _ _ (c .before .before .replace-refusal .ensures) _ _ (c .if1 .taken))
+returns c = (c .before .before .replace-refusal .ensures, kept _ _ (c .before .before .replace-refusal .ensures) _ _ (c .if1 .taken))
 
 write-replaced-requires : tie.Need-write-replaced-requires
 write-replaced-requires c κs = ap (λ (x : Refusal). x .number) (sym (c .before .before .before .replace-refusal .ensures)) ∙ c .before .if1 .left
@@ -24,7 +24,7 @@ returns-2 : tie.Need-returns-2
 unfolding replaceWrites
 returns-2 c =
     let r = c .before .before .before .before .before .before in
-    (r .replace-refusal .ensures, c .before .before .write-replaced .ensures ∙ if-done _ _ (r .replace-refusal .ensures) _ _ (c .before .before .before .before .if1 .left))
+    (r .replace-refusal .ensures, c .before .before .write-replaced .ensures ∙ given _ _ (r .replace-refusal .ensures) _ _ (c .before .before .before .before .if1 .left))
 
 pub replace-spec : {M : Type 1} → statement M
 replace-spec =

@@ -6,7 +6,7 @@ use Rattle.cipher.proofs.Xor.{bytes-from}
 use Rattle.files.specs.declared.Refusal.{Refusal}
 use Rattle.scheme.specs.Calls.{reportWrites, reportAnswer, reportNamed, reportRows}
 use Rattle.scheme.proofs.Checking.{reportable}
-use Rattle.scheme.proofs.Filing.{if-done, if-refused}
+use Rattle.files.proofs.Passing.{given, kept}
 use Rattle.scheme.proofs.Claiming.{claim}
 use borrow.Author.Needs.{needs}
 use Rattle.scheme.proofs.report.Statement.{statement}
@@ -20,7 +20,7 @@ unfolding reportWrites reportAnswer reportNamed reportRows
 returns c =
     let e = c .before .before .report-refusal .ensures in
     let t = c .if1 .taken in
-    (e, (if-refused _ _ e _ _ t, (if-refused _ _ e _ _ t, (if-refused _ _ e _ _ t, (if-refused _ _ e _ _ t, λ z. absurd (t z))))))
+    (e, (kept _ _ e _ _ t, (kept _ _ e _ _ t, (kept _ _ e _ _ t, (kept _ _ e _ _ t, λ z. absurd (t z))))))
 
 decode-files-requires : tie.Need-decode-files-requires
 decode-files-requires c κs = ap (λ (x : Refusal). x .number) (sym (c .before .before .before .report-refusal .ensures)) ∙ c .before .if1 .left
@@ -40,13 +40,13 @@ returns-2 c =
     let b = bytes-from (d .args .keys .now) (λ i l. omega (arith, r .before .before .before .before .shared-slice-known .given i)) in (
       e,
       (
-        f .0 ∙ if-done _ _ e _ _ t,
+        f .0 ∙ given _ _ e _ _ t,
         (
-          f .1 .0 ∙ if-done _ _ e _ _ t,
+          f .1 .0 ∙ given _ _ e _ _ t,
           (
-            f .1 .1 .0 ∙ if-done _ _ e _ _ t,
+            f .1 .1 .0 ∙ given _ _ e _ _ t,
             (
-              f .1 .1 .1 ∙ if-done _ _ e _ _ t,
+              f .1 .1 .1 ∙ given _ _ e _ _ t,
               λ z. claim (d .args .keys .now) (d .args .message .now) (d .args .file .now) _ _ _ _ _ b p (f .0) (f .1 .1 .0) (f .1 .0),
             ),
           ),

@@ -2,7 +2,7 @@
 use mathlib.Core.Path.{sym, _∙_, ap}
 use Rattle.files.specs.declared.Refusal.{Refusal}
 use Rattle.scheme.specs.Calls.{tagWrites}
-use Rattle.scheme.proofs.Filing.{if-done, if-refused}
+use Rattle.files.proofs.Passing.{given, kept}
 use borrow.Author.Needs.{needs}
 use Rattle.scheme.proofs.tag.Statement.{statement}
 use Rattle.scheme.proofs.tag.Tie as tie
@@ -12,7 +12,7 @@ tag-refusal-requires c κs = search needs
 
 returns : tie.Need-returns
 unfolding tagWrites
-returns c = (c .before .before .tag-refusal .ensures, if-refused _ _ (c .before .before .tag-refusal .ensures) _ _ (c .if1 .taken))
+returns c = (c .before .before .tag-refusal .ensures, kept _ _ (c .before .before .tag-refusal .ensures) _ _ (c .if1 .taken))
 
 write-tag-file-requires : tie.Need-write-tag-file-requires
 write-tag-file-requires c κs = ap (λ (x : Refusal). x .number) (sym (c .before .before .before .tag-refusal .ensures)) ∙ c .before .if1 .left
@@ -24,7 +24,7 @@ returns-2 : tie.Need-returns-2
 unfolding tagWrites
 returns-2 c =
     let r = c .before .before .before .before .before .before in
-    (r .tag-refusal .ensures, c .before .before .write-tag-file .ensures ∙ if-done _ _ (r .tag-refusal .ensures) _ _ (c .before .before .before .before .if1 .left))
+    (r .tag-refusal .ensures, c .before .before .write-tag-file .ensures ∙ given _ _ (r .tag-refusal .ensures) _ _ (c .before .before .before .before .if1 .left))
 
 pub tag-spec : {M : Type 1} → statement M
 tag-spec =

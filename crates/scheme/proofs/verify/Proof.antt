@@ -2,7 +2,7 @@
 use mathlib.Core.Path.{sym, _∙_, ap}
 use Rattle.files.specs.declared.Refusal.{Refusal}
 use Rattle.scheme.specs.Calls.{verifyYes}
-use Rattle.scheme.proofs.Filing.{if-done, if-refused}
+use Rattle.files.proofs.Passing.{given, kept}
 use borrow.Author.Needs.{needs}
 use Rattle.scheme.proofs.verify.Statement.{statement}
 use Rattle.scheme.proofs.verify.Tie as tie
@@ -12,7 +12,7 @@ verify-refusal-requires c κs = search needs
 
 returns : tie.Need-returns
 unfolding verifyYes
-returns c = (c .before .before .verify-refusal .ensures, if-refused _ _ (c .before .before .verify-refusal .ensures) _ _ (c .if1 .taken))
+returns c = (c .before .before .verify-refusal .ensures, kept _ _ (c .before .before .verify-refusal .ensures) _ _ (c .if1 .taken))
 
 tags-equal-requires : tie.Need-tags-equal-requires
 tags-equal-requires c κs = ap (λ (x : Refusal). x .number) (sym (c .before .before .verify-refusal .ensures)) ∙ c .if1 .left
@@ -21,7 +21,7 @@ returns-2 : tie.Need-returns-2
 unfolding verifyYes
 returns-2 c =
     let r = c .before .before .before in
-    (r .verify-refusal .ensures, c .tags-equal .ensures ∙ if-done _ _ (r .verify-refusal .ensures) _ _ (c .before .if1 .left))
+    (r .verify-refusal .ensures, c .tags-equal .ensures ∙ given _ _ (r .verify-refusal .ensures) _ _ (c .before .if1 .left))
 
 pub verify-spec : {M : Type 1} → statement M
 verify-spec = tie.close (tie.spec verify-refusal-requires returns tags-equal-requires returns-2)

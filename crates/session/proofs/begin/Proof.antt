@@ -2,7 +2,8 @@
 use mathlib.Core.Path.{_∙_}
 use native.Mathlib.Omega.{arith}
 use Rattle.session.specs.Session.{closed, beginRefusal, beginGives}
-use Rattle.session.proofs.Stepping.{given, kept, begin-tells, begun-is}
+use Rattle.files.proofs.Passing.{given, kept}
+use Rattle.session.proofs.Stepping.{begin-tells, begun-is}
 use borrow.Author.Needs.{needs}
 use Rattle.session.proofs.begin.Statement.{statement}
 use Rattle.session.proofs.begin.Tie as tie

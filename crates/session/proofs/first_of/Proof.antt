@@ -2,8 +2,7 @@
 use mathlib.Core.Path.{sym, _∙_}
 use mathlib.Core.List.{[], _∷_}
 use Rattle.files.specs.Refusals.{first}
-use Rattle.files.proofs.Passing.{first-here}
-use Rattle.session.proofs.Stepping.{first-past}
+use Rattle.files.proofs.Passing.{first-here, first-past}
 use Rattle.session.proofs.first_of.Statement.{statement}
 use Rattle.session.proofs.first_of.Tie as tie
 

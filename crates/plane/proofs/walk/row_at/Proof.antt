@@ -3,7 +3,6 @@ use mathlib.Core.Path.{sym, ap, _∙_}
 use Prim.Native.Nat.{ℕ, _+_, _-_}
 use native.Mathlib.Omega.{arith}
 use lib.ListN.{List·getD-eq-default}
-use Rattle.plane.specs.Table.{differences}
 use Rattle.plane.specs.Plane.{plane}
 use Rattle.incidence.specs.Family.{rowsOf}
 use Rattle.plane.proofs.Lookup.{items-most}

@@ -7,7 +7,8 @@ use Rattle.files.specs.declared.Refusal.{Refusal}
 use Rattle.files.specs.TagFile.{refuse20}
 use Rattle.files.proofs.Accepted.{formed}
 use Rattle.tagging.specs.Tagging.{keysIn}
-use Rattle.scheme.proofs.Checking.{stop, skip, last, plain6, plain20}
+use Rattle.files.proofs.Passing.{stop, skip}
+use Rattle.scheme.proofs.Checking.{last, plain20}
 use borrow.Author.Needs.{needs}
 use Rattle.scheme.proofs.checks.check_file.Statement.{statement}
 use Rattle.scheme.proofs.checks.check_file.Tie as tie
@@ -27,7 +28,7 @@ check-mac-requires c κs = formed (c .before .before .before .before .before .be
 returns-2 : tie.Need-returns-2
 unfolding keysIn slot
 returns-2 c = last _ _ (plain20 _ _) (c .check-mac .ensures ∙ ap (λ (k : List ℕ). refuse20 k (c .before .before .before .before .before .before .before .args .f .now)) (c .before .block-at .ensures))
-    ∙ sym (skip _ _ _ (plain6 _) (c .before .before .before .before .check .ensures) (c .before .before .if1 .left))
+    ∙ sym (skip _ _ _ (c .before .before .before .before .check .ensures) (c .before .before .if1 .left))
 
 pub check-file-spec : {M : Type 1} → statement M
 check-file-spec =

@@ -6,7 +6,8 @@ use Rattle.files.specs.Message.{refuse8}
 use Rattle.files.specs.TagFile.{countOf}
 use Rattle.files.specs.Handed.{refuse7}
 use Rattle.scheme.specs.Calls.{replaceRefusal}
-use Rattle.scheme.proofs.Checking.{stop, skip, last, pair, plain1, plain620, plain7, plain8, plain9, keys-long, fine-file}
+use Rattle.files.proofs.Passing.{stop, skip}
+use Rattle.scheme.proofs.Checking.{last, pair, plain7, keys-long, fine-file}
 use borrow.Author.Needs.{needs}
 use Rattle.scheme.proofs.checks.replace_refusal.Statement.{statement}
 use Rattle.scheme.proofs.checks.replace_refusal.Tie as tie
@@ -26,7 +27,7 @@ check-file-requires c κs =
 returns-2 : tie.Need-returns-2
 unfolding replaceRefusal
 returns-2 c = stop _ _ _ (c .before .before .check-file .ensures) (c .if2 .taken)
-    ∙ sym (skip _ _ _ (plain1 _) (c .before .before .before .before .before .check-keys .ensures) (c .before .before .before .if1 .left) ∙ pair _ _ _)
+    ∙ sym (skip _ _ _ (c .before .before .before .before .before .check-keys .ensures) (c .before .before .before .if1 .left) ∙ pair _ _ _)
 
 number16-requires : tie.Need-number16-requires
 number16-requires c κs =
@@ -39,8 +40,8 @@ check-number-requires c κs = search needs
 returns-3 : tie.Need-returns-3
 unfolding replaceRefusal countOf
 returns-3 c = stop _ _ _ (c .before .before .check-number .ensures ∙ ap (λ (n : ℕ). refuse8 n (c .before .before .before .before .before .before .before .before .before .before .before .before .before .before .args .j)) (c .before .before .before .number16 .ensures .0)) (c .if3 .taken)
-    ∙ sym (skip _ _ _ (plain1 _) (c .before .before .before .before .before .before .before .before .before .check-keys .ensures) (c .before .before .before .before .before .before .before .if1 .left) ∙ pair _ _ _
-    ∙ skip _ _ _ (plain620 _ _) (c .before .before .before .before .before .before .check-file .ensures) (c .before .before .before .before .if2 .left))
+    ∙ sym (skip _ _ _ (c .before .before .before .before .before .before .before .before .before .check-keys .ensures) (c .before .before .before .before .before .before .before .if1 .left) ∙ pair _ _ _
+    ∙ skip _ _ _ (c .before .before .before .before .before .before .check-file .ensures) (c .before .before .before .before .if2 .left))
 
 check-item-requires : tie.Need-check-item-requires
 check-item-requires c κs = search needs
@@ -48,9 +49,9 @@ check-item-requires c κs = search needs
 returns-4 : tie.Need-returns-4
 unfolding replaceRefusal countOf
 returns-4 c = stop _ _ _ (c .before .before .check-item .ensures) (c .if4 .taken)
-    ∙ sym (skip _ _ _ (plain1 _) (c .before .before .before .before .before .before .before .before .before .before .before .before .check-keys .ensures) (c .before .before .before .before .before .before .before .before .before .before .if1 .left) ∙ pair _ _ _
-    ∙ skip _ _ _ (plain620 _ _) (c .before .before .before .before .before .before .before .before .before .check-file .ensures) (c .before .before .before .before .before .before .before .if2 .left)
-    ∙ skip _ _ _ (plain8 _ _) (c .before .before .before .before .before .check-number .ensures ∙ ap (λ (n : ℕ). refuse8 n (c .before .before .before .before .before .before .before .before .before .before .before .before .before .before .before .before .before .args .j)) (c .before .before .before .before .before .before .number16 .ensures .0)) (c .before .before .before .if3 .left))
+    ∙ sym (skip _ _ _ (c .before .before .before .before .before .before .before .before .before .before .before .before .check-keys .ensures) (c .before .before .before .before .before .before .before .before .before .before .if1 .left) ∙ pair _ _ _
+    ∙ skip _ _ _ (c .before .before .before .before .before .before .before .before .before .check-file .ensures) (c .before .before .before .before .before .before .before .if2 .left)
+    ∙ skip _ _ _ (c .before .before .before .before .before .check-number .ensures ∙ ap (λ (n : ℕ). refuse8 n (c .before .before .before .before .before .before .before .before .before .before .before .before .before .before .before .before .before .args .j)) (c .before .before .before .before .before .before .number16 .ensures .0)) (c .before .before .before .if3 .left))
 
 check-item-requires-2 : tie.Need-check-item-requires-2
 check-item-requires-2 c κs = search needs
@@ -58,10 +59,10 @@ check-item-requires-2 c κs = search needs
 returns-5 : tie.Need-returns-5
 unfolding replaceRefusal countOf
 returns-5 c = stop _ _ _ (c .before .before .check-item2 .ensures) (c .if5 .taken)
-    ∙ sym (skip _ _ _ (plain1 _) (c .before .before .before .before .before .before .before .before .before .before .before .before .before .before .before .check-keys .ensures) (c .before .before .before .before .before .before .before .before .before .before .before .before .before .if1 .left) ∙ pair _ _ _
-    ∙ skip _ _ _ (plain620 _ _) (c .before .before .before .before .before .before .before .before .before .before .before .before .check-file .ensures) (c .before .before .before .before .before .before .before .before .before .before .if2 .left)
-    ∙ skip _ _ _ (plain8 _ _) (c .before .before .before .before .before .before .before .before .check-number .ensures ∙ ap (λ (n : ℕ). refuse8 n (c .before .before .before .before .before .before .before .before .before .before .before .before .before .before .before .before .before .before .before .before .args .j)) (c .before .before .before .before .before .before .before .before .before .number16 .ensures .0)) (c .before .before .before .before .before .before .if3 .left)
-    ∙ skip _ _ _ (plain9 _ _) (c .before .before .before .before .before .check-item .ensures) (c .before .before .before .if4 .left))
+    ∙ sym (skip _ _ _ (c .before .before .before .before .before .before .before .before .before .before .before .before .before .before .before .check-keys .ensures) (c .before .before .before .before .before .before .before .before .before .before .before .before .before .if1 .left) ∙ pair _ _ _
+    ∙ skip _ _ _ (c .before .before .before .before .before .before .before .before .before .before .before .before .check-file .ensures) (c .before .before .before .before .before .before .before .before .before .before .if2 .left)
+    ∙ skip _ _ _ (c .before .before .before .before .before .before .before .before .check-number .ensures ∙ ap (λ (n : ℕ). refuse8 n (c .before .before .before .before .before .before .before .before .before .before .before .before .before .before .before .before .before .before .before .before .args .j)) (c .before .before .before .before .before .before .before .before .before .number16 .ensures .0)) (c .before .before .before .before .before .before .if3 .left)
+    ∙ skip _ _ _ (c .before .before .before .before .before .check-item .ensures) (c .before .before .before .if4 .left))
 
 check-room-requires : tie.Need-check-room-requires
 check-room-requires c κs = search needs
@@ -71,11 +72,11 @@ unfolding replaceRefusal countOf
 returns-6 c =
     let f = fine-file _ _ _ (c .before .before .before .before .before .before .before .before .before .before .before .before .before .check-file .ensures) (c .before .before .before .before .before .before .before .before .before .before .before .if2 .left) in
     last _ _ (plain7 _ _) (c .check-room .ensures ∙ ap (λ (n : ℕ). refuse7 n (c .before .before .before .before .before .before .before .before .before .before .before .before .before .before .before .before .before .before .before .before .before .args .room)) (f .size))
-    ∙ sym (skip _ _ _ (plain1 _) (c .before .before .before .before .before .before .before .before .before .before .before .before .before .before .before .before .check-keys .ensures) (c .before .before .before .before .before .before .before .before .before .before .before .before .before .before .if1 .left) ∙ pair _ _ _
-    ∙ skip _ _ _ (plain620 _ _) (c .before .before .before .before .before .before .before .before .before .before .before .before .before .check-file .ensures) (c .before .before .before .before .before .before .before .before .before .before .before .if2 .left)
-    ∙ skip _ _ _ (plain8 _ _) (c .before .before .before .before .before .before .before .before .before .check-number .ensures ∙ ap (λ (n : ℕ). refuse8 n (c .before .before .before .before .before .before .before .before .before .before .before .before .before .before .before .before .before .before .before .before .before .args .j)) (c .before .before .before .before .before .before .before .before .before .before .number16 .ensures .0)) (c .before .before .before .before .before .before .before .if3 .left)
-    ∙ skip _ _ _ (plain9 _ _) (c .before .before .before .before .before .before .check-item .ensures) (c .before .before .before .before .if4 .left)
-    ∙ skip _ _ _ (plain9 _ _) (c .before .before .before .check-item2 .ensures) (c .before .if5 .left))
+    ∙ sym (skip _ _ _ (c .before .before .before .before .before .before .before .before .before .before .before .before .before .before .before .before .check-keys .ensures) (c .before .before .before .before .before .before .before .before .before .before .before .before .before .before .if1 .left) ∙ pair _ _ _
+    ∙ skip _ _ _ (c .before .before .before .before .before .before .before .before .before .before .before .before .before .check-file .ensures) (c .before .before .before .before .before .before .before .before .before .before .before .if2 .left)
+    ∙ skip _ _ _ (c .before .before .before .before .before .before .before .before .before .check-number .ensures ∙ ap (λ (n : ℕ). refuse8 n (c .before .before .before .before .before .before .before .before .before .before .before .before .before .before .before .before .before .before .before .before .before .args .j)) (c .before .before .before .before .before .before .before .before .before .before .number16 .ensures .0)) (c .before .before .before .before .before .before .before .if3 .left)
+    ∙ skip _ _ _ (c .before .before .before .before .before .before .check-item .ensures) (c .before .before .before .before .if4 .left)
+    ∙ skip _ _ _ (c .before .before .before .check-item2 .ensures) (c .before .if5 .left))
 
 pub replace-refusal-spec : {M : Type 1} → statement M
 replace-refusal-spec =

@@ -5,7 +5,8 @@ use Prim.Native.Nat.{ℕ}
 use Rattle.files.specs.Message.{count}
 use Rattle.files.specs.Handed.{refuse7}
 use Rattle.scheme.specs.Calls.{reportRefusal}
-use Rattle.scheme.proofs.Checking.{stop, skip, last, plain7, plain-verify, comparable}
+use Rattle.files.proofs.Passing.{stop, skip}
+use Rattle.scheme.proofs.Checking.{last, plain7, comparable}
 use borrow.Author.Needs.{needs}
 use Rattle.scheme.proofs.checks.report_refusal.Statement.{statement}
 use Rattle.scheme.proofs.checks.report_refusal.Tie as tie
@@ -28,7 +29,7 @@ check-room-requires c κs = search needs
 returns-2 : tie.Need-returns-2
 unfolding reportRefusal count
 returns-2 c = last _ _ (plain7 _ _) (c .check-room .ensures ∙ ap (λ (n : ℕ). refuse7 n (c .before .before .before .before .before .before .before .before .args .room)) (c .before .number16 .ensures .0))
-    ∙ sym (skip _ _ _ (plain-verify _ _ _) (c .before .before .before .before .verify-refusal .ensures) (c .before .before .if1 .left))
+    ∙ sym (skip _ _ _ (c .before .before .before .before .verify-refusal .ensures) (c .before .before .if1 .left))
 
 pub report-refusal-spec : {M : Type 1} → statement M
 report-refusal-spec =

@@ -6,9 +6,10 @@ use Rattle.sizes.proofs.Laws.{tags-few}
 use Rattle.files.specs.Message.{count}
 use Rattle.files.specs.TagFile.{fileSize}
 use Rattle.files.specs.Handed.{refuse4, refuse7}
-use Rattle.files.proofs.Messages.{plain3, plain5, header-fine}
+use Rattle.files.proofs.Messages.{header-fine}
 use Rattle.scheme.specs.Calls.{tagRefusal}
-use Rattle.scheme.proofs.Checking.{stop, skip, last, plain1, plain2, plain4, plain7}
+use Rattle.files.proofs.Passing.{stop, skip}
+use Rattle.scheme.proofs.Checking.{last, plain7}
 use borrow.Author.Needs.{needs}
 use Rattle.scheme.proofs.checks.tag_refusal.Statement.{statement}
 use Rattle.scheme.proofs.checks.tag_refusal.Tie as tie
@@ -26,7 +27,7 @@ check-code-requires c κs = search needs
 returns-2 : tie.Need-returns-2
 unfolding tagRefusal
 returns-2 c = stop _ _ _ (c .before .before .check-code .ensures) (c .if2 .taken)
-    ∙ sym (skip _ _ _ (plain1 _) (c .before .before .before .before .before .check-keys .ensures) (c .before .before .before .if1 .left))
+    ∙ sym (skip _ _ _ (c .before .before .before .before .before .check-keys .ensures) (c .before .before .before .if1 .left))
 
 check-header-requires : tie.Need-check-header-requires
 check-header-requires c κs = search needs
@@ -34,8 +35,8 @@ check-header-requires c κs = search needs
 returns-3 : tie.Need-returns-3
 unfolding tagRefusal
 returns-3 c = stop _ _ _ (c .before .before .check-header .ensures) (c .if3 .taken)
-    ∙ sym (skip _ _ _ (plain1 _) (c .before .before .before .before .before .before .before .before .check-keys .ensures) (c .before .before .before .before .before .before .if1 .left)
-    ∙ skip _ _ _ (plain2 _) (c .before .before .before .before .before .check-code .ensures) (c .before .before .before .if2 .left))
+    ∙ sym (skip _ _ _ (c .before .before .before .before .before .before .before .before .check-keys .ensures) (c .before .before .before .before .before .before .if1 .left)
+    ∙ skip _ _ _ (c .before .before .before .before .before .check-code .ensures) (c .before .before .before .if2 .left))
 
 number16-requires : tie.Need-number16-requires
 number16-requires c κs =
@@ -48,9 +49,9 @@ check-count-requires c κs = search needs
 returns-4 : tie.Need-returns-4
 unfolding tagRefusal count
 returns-4 c = stop _ _ _ (c .before .before .check-count .ensures ∙ ap (refuse4 _) (c .before .before .before .number16 .ensures .0)) (c .if4 .taken)
-    ∙ sym (skip _ _ _ (plain1 _) (c .before .before .before .before .before .before .before .before .before .before .before .before .check-keys .ensures) (c .before .before .before .before .before .before .before .before .before .before .if1 .left)
-    ∙ skip _ _ _ (plain2 _) (c .before .before .before .before .before .before .before .before .before .check-code .ensures) (c .before .before .before .before .before .before .before .if2 .left)
-    ∙ skip _ _ _ (plain3 _) (c .before .before .before .before .before .before .check-header .ensures) (c .before .before .before .before .if3 .left))
+    ∙ sym (skip _ _ _ (c .before .before .before .before .before .before .before .before .before .before .before .before .check-keys .ensures) (c .before .before .before .before .before .before .before .before .before .before .if1 .left)
+    ∙ skip _ _ _ (c .before .before .before .before .before .before .before .before .before .check-code .ensures) (c .before .before .before .before .before .before .before .if2 .left)
+    ∙ skip _ _ _ (c .before .before .before .before .before .before .check-header .ensures) (c .before .before .before .before .if3 .left))
 
 check-items-requires : tie.Need-check-items-requires
 check-items-requires c κs = header-fine (c .before .before .before .before .before .before .before .before .before .before .before .before .before .before .before .args .s .now) 0 _ (c .before .before .before .before .before .before .check-header .ensures) (c .before .before .before .before .if3 .left)
@@ -58,10 +59,10 @@ check-items-requires c κs = header-fine (c .before .before .before .before .bef
 returns-5 : tie.Need-returns-5
 unfolding tagRefusal count
 returns-5 c = stop _ _ _ (c .before .before .check-items .ensures) (c .if5 .taken)
-    ∙ sym (skip _ _ _ (plain1 _) (c .before .before .before .before .before .before .before .before .before .before .before .before .before .before .before .check-keys .ensures) (c .before .before .before .before .before .before .before .before .before .before .before .before .before .if1 .left)
-    ∙ skip _ _ _ (plain2 _) (c .before .before .before .before .before .before .before .before .before .before .before .before .check-code .ensures) (c .before .before .before .before .before .before .before .before .before .before .if2 .left)
-    ∙ skip _ _ _ (plain3 _) (c .before .before .before .before .before .before .before .before .before .check-header .ensures) (c .before .before .before .before .before .before .before .if3 .left)
-    ∙ skip _ _ _ (plain4 _ _) (c .before .before .before .before .before .check-count .ensures ∙ ap (refuse4 _) (c .before .before .before .before .before .before .number16 .ensures .0)) (c .before .before .before .if4 .left))
+    ∙ sym (skip _ _ _ (c .before .before .before .before .before .before .before .before .before .before .before .before .before .before .before .check-keys .ensures) (c .before .before .before .before .before .before .before .before .before .before .before .before .before .if1 .left)
+    ∙ skip _ _ _ (c .before .before .before .before .before .before .before .before .before .before .before .before .check-code .ensures) (c .before .before .before .before .before .before .before .before .before .before .if2 .left)
+    ∙ skip _ _ _ (c .before .before .before .before .before .before .before .before .before .check-header .ensures) (c .before .before .before .before .before .before .before .if3 .left)
+    ∙ skip _ _ _ (c .before .before .before .before .before .check-count .ensures ∙ ap (refuse4 _) (c .before .before .before .before .before .before .number16 .ensures .0)) (c .before .before .before .if4 .left))
 
 tags-requires : tie.Need-tags-requires
 tags-requires c κs = search needs
@@ -78,11 +79,11 @@ check-room-requires c κs = search needs
 returns-6 : tie.Need-returns-6
 unfolding tagRefusal count fileSize
 returns-6 c = last _ _ (plain7 _ _) (c .check-room .ensures ∙ ap (λ (t : ℕ). refuse7 (24 + 16 * t) (c .before .before .before .before .before .before .before .before .before .before .before .before .before .before .before .before .before .before .before .before .args .room)) (c .before .tags .ensures))
-    ∙ sym (skip _ _ _ (plain1 _) (c .before .before .before .before .before .before .before .before .before .before .before .before .before .before .before .before .before .check-keys .ensures) (c .before .before .before .before .before .before .before .before .before .before .before .before .before .before .before .if1 .left)
-    ∙ skip _ _ _ (plain2 _) (c .before .before .before .before .before .before .before .before .before .before .before .before .before .before .check-code .ensures) (c .before .before .before .before .before .before .before .before .before .before .before .before .if2 .left)
-    ∙ skip _ _ _ (plain3 _) (c .before .before .before .before .before .before .before .before .before .before .before .check-header .ensures) (c .before .before .before .before .before .before .before .before .before .if3 .left)
-    ∙ skip _ _ _ (plain4 _ _) (c .before .before .before .before .before .before .before .check-count .ensures ∙ ap (refuse4 _) (c .before .before .before .before .before .before .before .before .number16 .ensures .0)) (c .before .before .before .before .before .if4 .left)
-    ∙ skip _ _ _ (plain5 _) (c .before .before .before .before .check-items .ensures) (c .before .before .if5 .left))
+    ∙ sym (skip _ _ _ (c .before .before .before .before .before .before .before .before .before .before .before .before .before .before .before .before .before .check-keys .ensures) (c .before .before .before .before .before .before .before .before .before .before .before .before .before .before .before .if1 .left)
+    ∙ skip _ _ _ (c .before .before .before .before .before .before .before .before .before .before .before .before .before .before .check-code .ensures) (c .before .before .before .before .before .before .before .before .before .before .before .before .if2 .left)
+    ∙ skip _ _ _ (c .before .before .before .before .before .before .before .before .before .before .before .check-header .ensures) (c .before .before .before .before .before .before .before .before .before .if3 .left)
+    ∙ skip _ _ _ (c .before .before .before .before .before .before .before .check-count .ensures ∙ ap (refuse4 _) (c .before .before .before .before .before .before .before .before .number16 .ensures .0)) (c .before .before .before .before .before .if4 .left)
+    ∙ skip _ _ _ (c .before .before .before .before .check-items .ensures) (c .before .before .if5 .left))
 
 pub tag-refusal-spec : {M : Type 1} → statement M
 tag-refusal-spec =

@@ -2,7 +2,8 @@
 use mathlib.Core.Path.{sym, _∙_}
 use native.Mathlib.Omega.{arith}
 use Rattle.scheme.specs.Calls.{verifyRefusal}
-use Rattle.scheme.proofs.Checking.{stop, skip, last, pair, plain1, plain35, plain620, plain21, keys-long, sound, fine-file}
+use Rattle.files.proofs.Passing.{stop, skip}
+use Rattle.scheme.proofs.Checking.{last, pair, plain21, keys-long, sound, fine-file}
 use borrow.Author.Needs.{needs}
 use Rattle.scheme.proofs.checks.verify_refusal.Statement.{statement}
 use Rattle.scheme.proofs.checks.verify_refusal.Tie as tie
@@ -20,7 +21,7 @@ check-message-requires c κs = search needs
 returns-2 : tie.Need-returns-2
 unfolding verifyRefusal
 returns-2 c = stop _ _ _ (c .before .before .check-message .ensures) (c .if2 .taken)
-    ∙ sym (skip _ _ _ (plain1 _) (c .before .before .before .before .before .check-keys .ensures) (c .before .before .before .if1 .left) ∙ pair _ _ _)
+    ∙ sym (skip _ _ _ (c .before .before .before .before .before .check-keys .ensures) (c .before .before .before .if1 .left) ∙ pair _ _ _)
 
 check-file-requires : tie.Need-check-file-requires
 check-file-requires c κs =
@@ -30,8 +31,8 @@ check-file-requires c κs =
 returns-3 : tie.Need-returns-3
 unfolding verifyRefusal
 returns-3 c = stop _ _ _ (c .before .before .check-file .ensures) (c .if3 .taken)
-    ∙ sym (skip _ _ _ (plain1 _) (c .before .before .before .before .before .before .before .before .check-keys .ensures) (c .before .before .before .before .before .before .if1 .left) ∙ pair _ _ _
-    ∙ skip _ _ _ (plain35 _) (c .before .before .before .before .before .check-message .ensures) (c .before .before .before .if2 .left) ∙ pair _ _ _)
+    ∙ sym (skip _ _ _ (c .before .before .before .before .before .before .before .before .check-keys .ensures) (c .before .before .before .before .before .before .if1 .left) ∙ pair _ _ _
+    ∙ skip _ _ _ (c .before .before .before .before .before .check-message .ensures) (c .before .before .before .if2 .left) ∙ pair _ _ _)
 
 check-counts-requires : tie.Need-check-counts-requires
 check-counts-requires c κs =
@@ -42,9 +43,9 @@ check-counts-requires c κs =
 returns-4 : tie.Need-returns-4
 unfolding verifyRefusal
 returns-4 c = last _ _ (plain21 _ _) (c .check-counts .ensures)
-    ∙ sym (skip _ _ _ (plain1 _) (c .before .before .before .before .before .before .before .before .before .check-keys .ensures) (c .before .before .before .before .before .before .before .if1 .left) ∙ pair _ _ _
-    ∙ skip _ _ _ (plain35 _) (c .before .before .before .before .before .before .check-message .ensures) (c .before .before .before .before .if2 .left) ∙ pair _ _ _
-    ∙ skip _ _ _ (plain620 _ _) (c .before .before .before .check-file .ensures) (c .before .if3 .left))
+    ∙ sym (skip _ _ _ (c .before .before .before .before .before .before .before .before .before .check-keys .ensures) (c .before .before .before .before .before .before .before .if1 .left) ∙ pair _ _ _
+    ∙ skip _ _ _ (c .before .before .before .before .before .before .check-message .ensures) (c .before .before .before .before .if2 .left) ∙ pair _ _ _
+    ∙ skip _ _ _ (c .before .before .before .check-file .ensures) (c .before .if3 .left))
 
 pub verify-refusal-spec : {M : Type 1} → statement M
 verify-refusal-spec =

@@ -3,7 +3,8 @@ use mathlib.Core.Path.{_≡_, sym, _∙_}
 use lib.ListN.{length}
 use Rattle.session.specs.Session.{closed, closeRefusal, closeGives, closeWrites}
 use Rattle.session.proofs.Carried.{sums-fit}
-use Rattle.session.proofs.Stepping.{given, kept, close-tells}
+use Rattle.files.proofs.Passing.{given, kept}
+use Rattle.session.proofs.Stepping.{close-tells}
 use borrow.Author.Needs.{needs}
 use Rattle.session.proofs.Session.close.Statement.{statement}
 use Rattle.session.proofs.Session.close.Tie as tie
