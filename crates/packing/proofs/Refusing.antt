@@ -1,0 +1,82 @@
+-- What an append that passes tells of file and item, and what each test of the code settles.
+use mathlib.Core.Path.{_≡_, refl, sym, ap, _∙_}
+use mathlib.Core.Bool.{Bool, true, false}
+use mathlib.Core.List.{List, [], _∷_}
+use Prim.Native.Nat.{ℕ, _+_, _-_, _≤_, _<_}
+use native.Mathlib.Omega.{arith}
+use lib.Dec.{leb, ltb}
+use lib.ListN.{length, take, length-take}
+use borrow.Author.Tests.{leb-true, leb-false, le-leb, lt-leb, ltb-true}
+use Rattle.files.specs.declared.Refusal.{Refusal}
+use Rattle.files.specs.Refusals.{refusal, unless, first}
+use Rattle.files.specs.Message.{count, refuse3}
+use Rattle.files.specs.Handed.{refuse7, refuse9}
+use Rattle.files.proofs.Passing.{rest-passes, unless-false, unless-passes, number-of}
+use Rattle.files.proofs.Messages.{headed}
+use Rattle.packing.specs.Packing.{appendRefusal}
+
+-- the last of a list
+pub last : (t : Bool) → unless t 3 0 ≡ first (unless t 3 0 ∷ [])
+unfolding first
+last true = refl
+last false = refl
+
+-- ---- 7
+
+module _ (room n long : ℕ) where
+  pub room-short : room < n → refusal 7 0 ≡ refuse7 (n + 2 + long) room
+  unfolding refuse7
+  room-short h = let l : room < n + 2 + long = omega arith in sym (unless-false _ 7 0 (lt-leb (n + 2 + long) room l))
+
+  -- room for the item behind the first n bytes is room for both
+  pub room-rest : n ≤ room → refuse7 (2 + long) (room - n) ≡ refuse7 (n + 2 + long) room
+  unfolding refuse7
+  room-rest h = ap (λ (t : Bool). unless t 7 0) (go (leb (2 + long) (room - n)) refl)
+    where
+      go : (t : Bool) → leb (2 + long) (room - n) ≡ t → leb (2 + long) (room - n) ≡ leb (n + 2 + long) room
+      go true e =
+          let l = leb-true (2 + long) (room - n) e in
+          let k : n + 2 + long ≤ room = omega arith in e ∙ sym (le-leb (n + 2 + long) room k)
+      go false e =
+          let l = leb-false (2 + long) (room - n) e in
+          let k : room < n + 2 + long = omega arith in e ∙ sym (lt-leb (n + 2 + long) room k)
+
+pub room-tells : (size room : ℕ) (r : Refusal) → r ≡ refuse7 size room → r .number ≡ 0 → size ≤ room
+unfolding refuse7
+room-tells size room r e h = leb-true size room (unless-passes _ 7 0 (omega arith) (number-of r _ e h))
+
+-- ---- 3
+
+pub header-tells : (s : List ℕ) (r : Refusal) → r ≡ refuse3 s → r .number ≡ 0 → 7 ≤ length s
+header-tells s r e h = headed s (number-of r (refuse3 s) e h) .0
+
+-- ---- what an append that passes tells
+
+pub record Appendable (file : List ℕ) (n : ℕ) (item : List ℕ) : Type 0 where
+  pub short : length item ≤ 1024
+  pub room : n + 2 + length item ≤ length file
+  pub low : 7 ≤ n
+  pub size : n + 2 + length item ≤ 65536
+  pub more : count (take n file) < 65535
+
+pub appendable : (file : List ℕ) (n : ℕ) (item : List ℕ) (r : Refusal) → r ≡ appendRefusal file n item → r .number ≡ 0 → Appendable file n item
+unfolding appendRefusal refuse7 refuse9
+appendable file n item r e h =
+    let size = n + 2 + length item in
+    let long = leb (length item) 1024 in
+    let room = leb size (length file) in
+    let whole = leb size 65536 in
+    let more = ltb (count (take n file)) 65535 in
+    let a = rest-passes (unless long 9 0) (unless room 7 0 ∷ refuse3 (take n file) ∷ unless whole 3 0 ∷ unless more 3 0 ∷ []) (number-of r _ e h) in
+    let b = rest-passes (unless room 7 0) (refuse3 (take n file) ∷ unless whole 3 0 ∷ unless more 3 0 ∷ []) (a .1) in
+    let d = rest-passes (refuse3 (take n file)) (unless whole 3 0 ∷ unless more 3 0 ∷ []) (b .1) in
+    let f = rest-passes (unless whole 3 0) (unless more 3 0 ∷ []) (d .1) in
+    let g = rest-passes (unless more 3 0) [] (f .1) in
+    let l = headed (take n file) (d .0) .0 in
+    record {
+      short = leb-true (length item) 1024 (unless-passes long 9 0 (omega arith) (a .0));
+      room = leb-true size (length file) (unless-passes room 7 0 (omega arith) (b .0));
+      low = omega (arith, length-take n file);
+      size = leb-true size 65536 (unless-passes whole 3 0 (omega arith) (f .0));
+      more = ltb-true (count (take n file)) 65535 (unless-passes more 3 0 (omega arith) (g .0));
+    }

@@ -1,0 +1,52 @@
+-- The seven bytes of the file without items where there is room, else all as it was (Refusing).
+use mathlib.Core.Path.{_∙_}
+use mathlib.Core.List.{[], _++_}
+use native.Mathlib.Omega.{arith}
+use lib.ListN.{length, drop}
+use Rattle.cipher.specs.Number.{bigEndian}
+use Rattle.files.specs.Message.{prefix}
+use Rattle.files.proofs.Passing.{given, kept}
+use Rattle.packing.specs.Packing.{fields, messageOf, beginRefusal, beginWrites}
+use Rattle.packing.proofs.Refusing.{room-tells}
+use borrow.Author.Needs.{needs}
+use Rattle.packing.proofs.begin.Statement.{statement}
+use Rattle.packing.proofs.begin.Tie as tie
+
+check-room-requires : tie.Need-check-room-requires
+check-room-requires c κs = search needs
+
+returns : tie.Need-returns
+unfolding beginRefusal beginWrites
+returns c =
+    let q = c .before .before in
+    let o = q .before .before .args .out .now in
+    let e = q .check-room .ensures in
+    (e, kept _ (beginRefusal (length o)) e (messageOf [] ++ drop 7 o) o (c .if1 .taken))
+
+slice-aggregate-put : tie.Need-slice-aggregate-put
+slice-aggregate-put c = search needs
+
+put-requires : tie.Need-put-requires
+put-requires c κs =
+    let f = c .before .before in
+    let q = f .before .before in
+    let l = room-tells 7 (length (q .before .before .args .out .now)) _ (q .check-room .ensures) (f .if1 .left) in
+    omega arith
+
+same-length : tie.Need-same-length
+same-length c = search needs
+
+returns-2 : tie.Need-returns-2
+unfolding beginRefusal beginWrites messageOf fields prefix bigEndian
+returns-2 c =
+    let p = c .before .before in
+    let f = p .before .before .before in
+    let q = f .before .before in
+    let o = q .before .before .args .out .now in
+    let e = q .check-room .ensures in
+    (e, p .put .ensures ∙ given _ (beginRefusal (length o)) e (messageOf [] ++ drop 7 o) o (f .if1 .left))
+
+pub begin-spec : {M : Type 1} → statement M
+begin-spec =
+    tie.close
+    (tie.spec check-room-requires returns slice-aggregate-put put-requires same-length returns-2)

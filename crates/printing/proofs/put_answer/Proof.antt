@@ -1,0 +1,64 @@
+-- Four texts, one behind the other (Putting).
+use Rattle.printing.specs.Text.{ascii, labelled}
+use Rattle.printing.specs.Lines.{answerWord, answerLine}
+use Rattle.printing.proofs.Putting.{four₁, four₂, four₃, four₄, four}
+use denote.Ref.{now}
+use borrow.Author.Needs.{needs}
+use Rattle.printing.proofs.put_answer.Statement.{statement}
+use Rattle.printing.proofs.put_answer.Tie as tie
+
+put-word-requires : tie.Need-put-word-requires
+unfolding answerLine labelled ascii
+put-word-requires c κs =
+    let d = c .before .before in
+    four₁ (d .args .at) (answerWord (d .args .said)) (labelled " " (d .args .named)) (labelled " rows " (d .args .rows)) (ascii "\n") (now (d .args .out)) (d .pre)
+
+slice-aggregate-put-labelled : tie.Need-slice-aggregate-put-labelled
+slice-aggregate-put-labelled c = search needs
+
+put-labelled-requires : tie.Need-put-labelled-requires
+unfolding answerLine labelled ascii
+put-labelled-requires c κs =
+    let d = c .before .before .before .before .before .before .before in
+    four₂ (d .args .at) (answerWord (d .args .said)) (labelled " " (d .args .named)) (labelled " rows " (d .args .rows)) (ascii "\n") (now (d .args .out)) (d .pre) (c .before .before .before .before .put-word .ensures)
+
+slice-aggregate-put-labelled-2 : tie.Need-slice-aggregate-put-labelled-2
+slice-aggregate-put-labelled-2 c = search needs
+
+put-labelled-requires-2 : tie.Need-put-labelled-requires-2
+unfolding answerLine labelled ascii
+put-labelled-requires-2 c κs =
+    let d = c .before .before .before .before .before .before .before .before .before .before .before .before in
+    four₃ (d .args .at) (answerWord (d .args .said)) (labelled " " (d .args .named)) (labelled " rows " (d .args .rows)) (ascii "\n") (now (d .args .out)) (d .pre) (c .before .before .before .before .before .before .before .before .before .put-word .ensures) (c .before .before .before .before .put-labelled .ensures)
+
+slice-aggregate-put : tie.Need-slice-aggregate-put
+slice-aggregate-put c = search needs
+
+put-requires : tie.Need-put-requires
+unfolding answerLine labelled ascii
+put-requires c κs =
+    let d = c .before .before .before .before .before .before .before .before .before .before .before .before .before .before .before .before .before in
+    four₄ (d .args .at) (answerWord (d .args .said)) (labelled " " (d .args .named)) (labelled " rows " (d .args .rows)) (ascii "\n") (now (d .args .out)) (d .pre) (c .before .before .before .before .before .before .before .before .before .before .before .before .before .before .put-word .ensures) (c .before .before .before .before .before .before .before .before .before .put-labelled .ensures) (c .before .before .before .before .put-labelled2 .ensures)
+
+same-length : tie.Need-same-length
+same-length c = search needs
+
+returns : tie.Need-returns
+unfolding answerLine labelled ascii
+returns c =
+    let d = c .before .before .before .before .before .before .before .before .before .before .before .before .before .before .before .before .before .before .before .before in
+    four (d .args .at) (answerWord (d .args .said)) (labelled " " (d .args .named)) (labelled " rows " (d .args .rows)) (ascii "\n") (now (d .args .out)) (d .pre) (c .before .before .before .before .before .before .before .before .before .before .before .before .before .before .before .before .before .put-word .ensures) (c .before .before .before .before .before .before .before .before .before .before .before .before .put-labelled .ensures) (c .before .before .before .before .before .before .before .put-labelled2 .ensures) (c .before .before .put .ensures)
+
+pub put-answer-spec : {M : Type 1} → statement M
+put-answer-spec =
+    tie.close
+    (tie.spec
+    put-word-requires
+    slice-aggregate-put-labelled
+    put-labelled-requires
+    slice-aggregate-put-labelled-2
+    put-labelled-requires-2
+    slice-aggregate-put
+    put-requires
+    same-length
+    returns)

@@ -1,0 +1,86 @@
+-- Each turn puts one card's line behind those that stand (Putting, CardLines).
+use mathlib.Core.Path.{_≡_, sym, ap}
+use Prim.Native.Nat.{_+_, _-_, _≤_}
+use native.Mathlib.Omega.{arith}
+use lib.ListN.{getD}
+use denote.Ref.{now}
+use Rattle.printing.specs.Lines.{cardPart, cardLines}
+use Rattle.printing.proofs.Putting.{Put, put-none, put-as, put-size, two₂, two}
+use Rattle.printing.proofs.CardLines.{lines-next, lines-fewer, lines-room}
+use borrow.Author.Needs.{needs}
+use Rattle.printing.proofs.put_cards.Statement.{statement}
+use Rattle.printing.proofs.put_cards.Tie as tie
+
+abbrev Inv-loop : tie.InvT-loop
+Inv-loop out₀ at marks n next₀ j₀ out next j = (j ≤ n) × Put at (cardLines marks j) out₀ next out
+
+abbrev μ-loop : tie.MeasureT-loop
+μ-loop out₀ at marks n next₀ j₀ out next j = n - j
+
+loop-holds : tie.Need-loop-holds Inv-loop μ-loop
+unfolding cardLines
+loop-holds c =
+    let d = c .before .before in
+    (omega arith, put-none (d .args .at) (now (d .args .out)))
+
+shared-slice-read-put-card : tie.Need-shared-slice-read-put-card Inv-loop μ-loop
+shared-slice-read-put-card c = search needs
+
+add-put-card : tie.Need-add-put-card Inv-loop μ-loop
+add-put-card c = search needs
+
+put-card-requires : tie.Need-put-card-requires Inv-loop μ-loop
+put-card-requires c κs =
+    let l = c .before .before .before in
+    let d = c .before .before .before .before .before .before in
+    let marks = now (d .args .marks) in
+    let j = l .loop .j in
+    two₂ (d .args .at) (cardLines marks j) (cardPart (getD marks j 0) (j + 1)) (now (d .args .out)) (lines-room (d .args .at) j (d .args .n) marks (now (d .args .out)) (omega arith) (d .pre .1)) (l .loop .inv .1)
+
+add-j : tie.Need-add-j Inv-loop μ-loop
+add-j c = search needs
+
+loop-less : tie.Need-loop-less Inv-loop μ-loop
+loop-less c = search needs
+
+loop-again : tie.Need-loop-again Inv-loop μ-loop
+loop-again c =
+    let l = c .before .before .before .before .before .before in
+    let d = c .before .before .before .before .before .before .before .before .before in
+    let marks = now (d .args .marks) in
+    let j = l .loop .j in
+    (omega arith, put-as _ _ _ _ _ _ (sym (lines-next marks j)) (two (d .args .at) (cardLines marks j) (cardPart (getD marks j 0) (j + 1)) (now (d .args .out)) (lines-room (d .args .at) j (d .args .n) marks (now (d .args .out)) (omega arith) (d .pre .1)) (l .loop .inv .1) (c .before .before .put-card .ensures)))
+
+same-length : tie.Need-same-length Inv-loop μ-loop
+same-length c =
+    let l = c .before in
+    let d = c .before .before .before .before in
+    let marks = now (d .args .marks) in
+    let j = l .loop .j in
+    let h = lines-fewer marks j (d .args .n) (l .loop .inv .0) in
+    put-size (d .args .at) (l .loop .next) (cardLines marks j) (now (d .args .out)) (l .loop .out) (omega (arith, h)) (l .loop .inv .1)
+
+returns : tie.Need-returns Inv-loop μ-loop
+returns c =
+    let l = c .before in
+    let d = c .before .before .before .before in
+    let marks = now (d .args .marks) in
+    let j = l .loop .j in
+    let e : j ≡ d .args .n = omega arith in
+    put-as _ _ _ _ _ _ (ap (cardLines marks) e) (l .loop .inv .1)
+
+pub put-cards-spec : {M : Type 1} → statement M
+put-cards-spec =
+    tie.close
+    (tie.spec
+    Inv-loop
+    μ-loop
+    loop-holds
+    shared-slice-read-put-card
+    add-put-card
+    put-card-requires
+    add-j
+    loop-less
+    loop-again
+    same-length
+    returns)

@@ -1,0 +1,3 @@
+-- The laws that the proofs of this crate cite.
+pub mod Reading
+pub mod Texts

@@ -1,0 +1,111 @@
+-- Refused or done, what is put is the text (Texts).
+use mathlib.Core.Path.{refl, ap, _∙_}
+use mathlib.Core.List.{List}
+use Prim.Native.Nat.{ℕ}
+use native.Mathlib.Omega.{arith}
+use lib.ListN.{length}
+use denote.Ref.{now}
+use Rattle.printing.specs.Text.{over}
+use Rattle.files.specs.Message.{count}
+use Rattle.sizes.proofs.Laws.{tags-few}
+use Rattle.printing.proofs.Putting.{put-as, put-front}
+use Rattle.printing.proofs.Lengths.{refused-short}
+use Rattle.scheme.proofs.Checking.{taggable}
+use Rattle.reporting.proofs.Texts.{tag-refused, tag-done, tag-file}
+use borrow.Author.Needs.{needs}
+use Rattle.reporting.proofs.put_both.Statement.{statement}
+use Rattle.reporting.proofs.put_both.Tie as tie
+
+slice-aggregate-tag : tie.Need-slice-aggregate-tag
+slice-aggregate-tag c = search needs
+
+tag-requires : tie.Need-tag-requires
+tag-requires c κs = search needs
+
+put-refused-requires : tie.Need-put-refused-requires
+put-refused-requires c κs =
+    let d = c .before .before .before .before .before .before .before .before .before .before in
+    let short = refused-short (c .before .before .before .before .tag .result) (search needs) (search needs) in
+    omega arith
+
+same-length : tie.Need-same-length
+same-length c = search needs
+
+returns : tie.Need-returns
+returns c =
+    let d = c .before .before .before .before .before .before .before .before .before .before .before .before .before in
+    let a = d .args in
+    let r = c .before .before .before .before .before .before .before .tag in
+    put-front _ _ _ _ (put-as _ _ _ _ _ _ (tag-refused (now (a .keys)) (a .code) (now (a .first)) (now (a .second)) (r .result) (r .ensures .0) (c .before .before .before .before .if1 .taken)) (c .before .before .put-refused .ensures))
+
+number16-requires : tie.Need-number16-requires
+number16-requires c κs =
+    let d = c .before .before .before .before .before .before .before .before .before in
+    let a = d .args in
+    let r = c .before .before .before .tag in
+    let T = taggable (now (a .keys)) (a .code) (now (a .first)) 1336 (r .result) (r .ensures .0) (c .if1 .left) in
+    T .message .long
+
+tags-requires : tie.Need-tags-requires
+tags-requires c κs = search needs
+
+mul-end : tie.Need-mul-end
+mul-end c =
+    let e = c .tags .ensures in
+    let few = tags-few (c .before .before .before .before .before .before .before .before .before .before .before .args .code) in
+    omega (arith, e, few)
+
+add-end : tie.Need-add-end
+add-end c =
+    let e = c .tags .ensures in
+    let few = tags-few (c .before .before .before .before .before .before .before .before .before .before .before .args .code) in
+    omega (arith, e, few)
+
+sub-put-report : tie.Need-sub-put-report
+sub-put-report c = search needs
+
+part-put-report-start : tie.Need-part-put-report-start
+part-put-report-start c = search needs
+
+part-put-report-end : tie.Need-part-put-report-end
+part-put-report-end c =
+    let e = c .before .tags .ensures in
+    let few = tags-few (c .before .before .before .before .before .before .before .before .before .before .before .before .args .code) in
+    omega (arith, e, few)
+
+put-report-requires : tie.Need-put-report-requires
+put-report-requires c κs = search needs
+
+same-length-2 : tie.Need-same-length-2
+same-length-2 c = search needs
+
+returns-2 : tie.Need-returns-2
+unfolding count
+returns-2 c =
+    let d = c .before .before .before .before .before .before .before .before .before .before .before .before .before .before .before .before .before in
+    let a = d .args in
+    let r = c .before .before .before .before .before .before .before .before .before .before .before .tag in
+    let f = tag-file (now (a .keys)) (a .code) (now (a .first)) (now (a .second)) (r .result) (r .ensures .0) (c .before .before .before .before .before .before .before .before .if1 .left) _ _ _ (c .before .before .before .before .before .before .tags .ensures) refl (r .ensures .1) in
+    let w = tag-done (now (a .keys)) (a .code) (now (a .first)) (now (a .second)) (r .result) (r .ensures .0) (c .before .before .before .before .before .before .before .before .if1 .left) _ _ (c .before .before .before .before .before .before .before .number16 .ensures .0) f in
+    let p = c .before .before .put-report .ensures in
+    (p .0 ∙ ap (λ (t : List ℕ). over 0 t (now (a .out))) w, p .1 ∙ ap length w)
+
+pub put-both-spec : {M : Type 1} → statement M
+put-both-spec =
+    tie.close
+    (tie.spec
+    slice-aggregate-tag
+    tag-requires
+    put-refused-requires
+    same-length
+    returns
+    number16-requires
+    tags-requires
+    mul-end
+    add-end
+    sub-put-report
+    part-put-report-start
+    part-put-report-end
+    put-report-requires
+    same-length-2
+    returns-2)

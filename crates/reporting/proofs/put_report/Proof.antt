@@ -1,0 +1,90 @@
+-- Refused or done, what is put is the text (Texts).
+use mathlib.Core.Path.{_≡_, ap, _∙_}
+use mathlib.Core.List.{List}
+use Rattle.printing.specs.Text.{over}
+use Prim.Native.Nat.{ℕ}
+use native.Mathlib.Omega.{arith}
+use lib.ListN.{length}
+use denote.Ref.{now}
+use Rattle.printing.proofs.Putting.{put-as, put-front}
+use Rattle.printing.proofs.Lengths.{refused-short}
+use Rattle.files.specs.Message.{count}
+use Rattle.scheme.proofs.Checking.{reportable}
+use Rattle.reporting.proofs.Texts.{report-refused, report-done}
+use borrow.Author.Needs.{needs}
+use Rattle.reporting.proofs.put_report.Statement.{statement}
+use Rattle.reporting.proofs.put_report.Tie as tie
+
+slice-aggregate-report : tie.Need-slice-aggregate-report
+slice-aggregate-report c = search needs
+
+report-requires : tie.Need-report-requires
+report-requires c κs = search needs
+
+put-refused-requires : tie.Need-put-refused-requires
+put-refused-requires c κs =
+    let d = c .before .before .before .before .before .before .before .before .before .before .before in
+    let short = refused-short (c .before .before .before .before .before .report .result .refused) (search needs) (search needs) in
+    omega arith
+
+same-length : tie.Need-same-length
+same-length c = search needs
+
+returns : tie.Need-returns
+returns c =
+    let d = c .before .before .before .before .before .before .before .before .before .before .before .before .before .before in
+    let a = d .args in
+    let r = c .before .before .before .before .before .before .before .before .report in
+    put-front _ _ _ _ (put-as _ _ _ _ _ _ (report-refused (now (a .keys)) (a .code) (a .n) (now (a .s)) (now (a .file)) (r .result .refused) (r .ensures .0) (c .before .before .before .before .if1 .taken)) (c .before .before .put-refused .ensures))
+
+number16-requires : tie.Need-number16-requires
+number16-requires c κs =
+    let d = c .before .before .before .before .before .before .before .before .before .before in
+    let a = d .args in
+    let r = c .before .before .before .before .report in
+    let R = reportable (now (a .keys)) (now (a .s)) (now (a .file)) 273 (r .result .refused) (r .ensures .0) (c .if1 .left) in
+    R .files .message .long
+
+slice-aggregate-put-report : tie.Need-slice-aggregate-put-report
+slice-aggregate-put-report c = search needs
+
+put-report-requires : tie.Need-put-report-requires
+unfolding count
+put-report-requires c κs =
+    let d = c .before .before .before .before .before .before .before .before .before .before .before .before .before in
+    let a = d .args in
+    let r = c .before .before .before .before .before .before .before .report in
+    let R = reportable (now (a .keys)) (now (a .s)) (now (a .file)) 273 (r .result .refused) (r .ensures .0) (c .before .before .before .if1 .left) in
+    let n = c .before .before .number16 .ensures .0 in
+    let few = R .fits in
+    let long : length (r .last .1 .1 .1 .0) ≡ 273 = search needs in
+    (omega arith, omega (arith, few, n), omega (arith, few, n, long))
+
+same-length-2 : tie.Need-same-length-2
+same-length-2 c = search needs
+
+returns-2 : tie.Need-returns-2
+unfolding count
+returns-2 c =
+    let d = c .before .before .before .before .before .before .before .before .before .before .before .before .before .before .before .before in
+    let a = d .args in
+    let r = c .before .before .before .before .before .before .before .before .before .before .report in
+    let e = r .ensures .1 in
+    let p = c .before .before .put-report .ensures in
+    let w = report-done (now (a .keys)) (a .code) (a .n) (now (a .s)) (now (a .file)) (r .result .refused) (r .ensures .0) (c .before .before .before .before .before .before .if1 .left) _ _ _ _ _ (e .1 .0) (e .1 .1 .0) (e .1 .1 .1 .0) (e .0) (c .before .before .before .before .before .number16 .ensures .0) in
+    (p .0 ∙ ap (λ (t : List ℕ). over 0 t (now (a .out))) w, p .1 ∙ ap length w)
+
+pub put-report-spec : {M : Type 1} → statement M
+put-report-spec =
+    tie.close
+    (tie.spec
+    slice-aggregate-report
+    report-requires
+    put-refused-requires
+    same-length
+    returns
+    number16-requires
+    slice-aggregate-put-report
+    put-report-requires
+    same-length-2
+    returns-2)

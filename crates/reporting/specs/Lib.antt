@@ -1,0 +1,2 @@
+-- What the report program prints. Definitions only: the laws about them are in proofs/.
+pub mod Printed
