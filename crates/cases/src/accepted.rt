@@ -1,11 +1,11 @@
 // The line of a call that does its work.
-use crate::inputs;
-use crate::inputs::KEYS;
-use crate::judge;
-use crate::say;
 use files::Refusal;
 use files::message;
 use session::Session;
+use trial::inputs;
+use trial::inputs::KEYS;
+use trial::judge;
+use trial::say;
 
 fn says_yes(shelf: &[u8], sheet: &[u8]) -> bool {
     let v = scheme::verify(&KEYS, shelf, sheet);

@@ -1,16 +1,12 @@
 // Runs document 01's bench cards that are not starred, and each refusal in each call that can give it. A line a case: what was called,
 // what came out, and `right` or `WRONG`. What is right is typed in from document 01 beside the case.
-use crate::inputs::ONE_EMPTY;
+use trial::inputs;
+use trial::inputs::ONE_EMPTY;
 
 mod accepted;
-mod agreement;
-mod altered;
-mod inputs;
-mod judge;
 mod orders;
 mod refusals;
 mod refused;
-mod say;
 
 // The bench card of the smallest shelf.
 fn one_empty_card() {
@@ -43,6 +39,4 @@ fn main() {
     longest_card();
     refusals::all();
     orders::all();
-    agreement::all();
-    altered::all();
 }

@@ -1,8 +1,8 @@
 // Two refusals that apply at once: the call gives the one that its order of checks has first.
-use crate::inputs;
-use crate::inputs::ONE_EMPTY;
-use crate::inputs::SHELF;
 use crate::refused;
+use trial::inputs;
+use trial::inputs::ONE_EMPTY;
+use trial::inputs::SHELF;
 
 // Shelves of count 0: of version 2, and with a byte left over.
 const NONE_OF_VERSION_2: [u8; 7] = *b"TBS\x00\x02\x00\x00";

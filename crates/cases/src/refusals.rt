@@ -1,9 +1,9 @@
 // Each refusal of document 01's two lists, in each call that can give it.
 use crate::accepted;
-use crate::inputs;
-use crate::inputs::ONE_EMPTY;
-use crate::inputs::SHELF;
 use crate::refused;
+use trial::inputs;
+use trial::inputs::ONE_EMPTY;
+use trial::inputs::SHELF;
 ghost use Prim.Native.Nat.{_≤_};
 ghost use lib.ListN.{length};
 

@@ -1,11 +1,11 @@
 // The line of a call that refuses: its number and place, and that the buffer or the session is as it was.
-use crate::inputs;
-use crate::inputs::KEYS;
-use crate::judge;
-use crate::say;
 use files::Refusal;
 use files::message;
 use session::Session;
+use trial::inputs;
+use trial::inputs::KEYS;
+use trial::judge;
+use trial::say;
 
 // The line where a buffer was lent.
 fn line(call: &[u8], name: &[u8], r: Refusal, number: u8, place: usize, out: &[u8]) {

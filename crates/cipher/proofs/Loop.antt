@@ -7,7 +7,7 @@ use native.Mathlib.Nat.{not-suc-le-zero, le-of-suc-le-suc}
 use native.Mathlib.Numerals.{add-one}
 use lib.ListN.{length, getD, set, take, drop, drop-of-length-le, length-append, length-take, length-drop}
 use borrow.Rule.Slice.PartMut.{putMid}
-use lib.Seq.{drop-nil, take-all, drop-drop, drop-length}
+use lib.Seq.{take-length, drop-nil, take-all, drop-drop, drop-length}
 use native.Mathlib.Omega.{arith}
 
 abbrev pub part : ℕ → List ℕ → List ℕ → List ℕ
@@ -69,3 +69,10 @@ part-back xs ys new a n h e =
     let all : take (length xs - a) (drop a xs) ≡ drop a xs = take-all (length xs - a) (drop a xs) (simp length-drop (omega arith)) in
     let none : drop (length xs - a) (drop a xs) ≡ [] = rw (← length-drop a xs) (drop-length (drop a xs)) in
     rw (e, all, none, append-nil, drop-drop) refl
+
+-- with a text copied to its front
+pub part-copied : (xs ys text : List ℕ) (a : ℕ) → a + length text ≤ length xs
+    → ys ≡ take (length text) text ++ drop (length text) (take (length xs - a) (drop a xs))
+    → putMid a (length xs - a) xs ys ≡ take a xs ++ (text ++ drop (a + length text) xs)
+part-copied xs ys text a h e =
+    part-back xs ys text a (length text) h (e ∙ ap (λ (l : List ℕ). l ++ drop (length text) (take (length xs - a) (drop a xs))) (take-length text))

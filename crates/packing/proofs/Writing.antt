@@ -1,31 +1,16 @@
 -- Bytes put into a buffer: a copy byte by byte, and an item with its length behind a file whose count is raised.
 use mathlib.Core.Path.{_≡_, sym, ap, ap₂, _∙_}
 use mathlib.Core.List.{List, _++_, append-assoc}
-use Prim.Native.Nat.{ℕ, _+_, _≤_, _<_}
-use native.Mathlib.Numerals.{add-one}
+use Prim.Native.Nat.{ℕ, _+_, _≤_}
 use native.Mathlib.Omega.{arith}
-use lib.ListN.{length, getD, set, take, drop, length-append, length-drop, take-append-drop}
-use lib.Seq.{take-all, take-at, drop-at, take-append-le, drop-append-le, drop-drop, length-take-le, paste, paste-suc}
+use lib.ListN.{length, take, drop, length-append, length-drop, take-append-drop}
+use lib.Seq.{take-at, drop-at, take-append-le, drop-append-le, drop-drop, length-take-le}
 use Rattle.cipher.specs.Number.{number, bigEndian}
 use Rattle.cipher.proofs.Numbers.{bigEndian-length}
 use Rattle.files.specs.Message.{number16, count}
 use Rattle.packing.specs.Packing.{field, appended}
 
--- ---- a copy
-
--- one byte more
-pub paste-more : (d : List ℕ) (at : ℕ) (s : List ℕ) (i : ℕ) (out : List ℕ) → at + i < length d → i < length s → out ≡ paste d at s i
-    → set out (at + i) (getD s i 0) ≡ paste d at s (i + 1)
-paste-more d at s i out h k e =
-    ap (λ (z : List ℕ). set z (at + i) (getD s i 0)) e ∙ paste-suc d at s i 0 h k ∙ ap (λ (m : ℕ). paste d at s m) (sym (add-one i))
-
--- and all
-pub paste-all : (d : List ℕ) (at : ℕ) (s : List ℕ) (i : ℕ) (out : List ℕ) → i ≡ length s → out ≡ paste d at s i
-    → out ≡ take at d ++ (s ++ drop (at + length s) d)
-paste-all d at s i out h e =
-    e ∙ ap (λ (m : ℕ). paste d at s m) h
-    ∙ ap (λ (z : List ℕ). take at d ++ z ++ drop (at + length s) d) (take-all (length s) s (omega arith))
-    ∙ append-assoc (take at d) s (drop (at + length s) d)
+-- ---- a part replaced
 
 -- what stands between x and z is replaced
 pub replaced : (x y z new : List ℕ) (at : ℕ) → length x ≡ at → length y ≡ length new

@@ -14,15 +14,11 @@ ghost use Rattle.files.specs.Handed.{refuse7};
 ghost use Rattle.packing.specs.Packing.{appended, beginRefusal, beginWrites, appendRefusal, appendWrites};
 
 // Writes bytes at a place of out; all else stays.
-fn put(out: &mut [u8], at: usize, bytes: &[u8])
-    requires { ⌜ at + length (now bytes) ≤ length (now out) ⌝ }
-    ensures { λ _. ⌜ now (out .exit) ≡ take at (now (out .entry)) ++ (now (bytes .entry) ++ drop (at + length (now (bytes .entry))) (now (out .entry))) ⌝ }
+fn put(out: &mut [u8], at: usize, text: &[u8])
+    requires { ⌜ at + length (now text) ≤ length (now out) ⌝ }
+    ensures { λ _. ⌜ now (out .exit) ≡ take at (now (out .entry)) ++ (now (text .entry) ++ drop (at + length (now (text .entry))) (now (out .entry))) ⌝ }
 {
-    let mut i = 0;
-    while i < bytes.len() {
-        out[at + i] = bytes[i];
-        i += 1;
-    }
+    bytes::copy(text, &mut out[at..]);
 }
 
 // Writes the message file without items, 7 bytes, to the front of out; the bytes behind stay. Refuses 7; out is then as it was.

@@ -1,26 +1,16 @@
 -- A text put over a list, and two put one behind the other.
 use mathlib.Core.Path.{_≡_, sym, _∙_, ap, ap₂, subst}
 use mathlib.Core.List.{List, [], _++_, append-assoc}
-use Prim.Native.Nat.{ℕ, _+_, _-_, _≤_}
+use Prim.Native.Nat.{ℕ, _+_, _≤_}
 use native.Mathlib.Nat.{add-zero, zero-add}
 use native.Mathlib.Omega.{arith}
 use lib.ListN.{length, take, drop, length-append, length-take, length-drop, take-append-drop}
-use lib.Seq.{length-take-le, take-at, take-length, drop-append-add, drop-drop}
-use borrow.Rule.Slice.PartMut.{putMid}
-use Rattle.cipher.proofs.Loop.{part-back}
+use lib.Seq.{length-take-le, take-at, drop-append-add, drop-drop}
 use Rattle.printing.specs.Text.{over}
 
 -- a text is put at a place of s: s′ is what is there then, and r the place behind the text
 abbrev pub Put : ℕ → List ℕ → List ℕ → ℕ → List ℕ → Type 0
 Put at text s r s′ = (s′ ≡ over at text s) × (r ≡ at + length text)
-
--- the part of a list from a place on, with a text copied to its front
-pub copied : (s part text : List ℕ) (at : ℕ) → at + length text ≤ length s
-    → part ≡ take (length text) text ++ drop (length text) (take (length s - at) (drop at s)) → putMid at (length s - at) s part ≡ over at text s
-unfolding over
-copied s part text at h e =
-    part-back s part text at (length text) h
-    (e ∙ ap (λ (l : List ℕ). l ++ drop (length text) (take (length s - at) (drop at s))) (take-length text))
 
 pub over-length : (at : ℕ) (text s : List ℕ) → at + length text ≤ length s → length (over at text s) ≡ length s
 unfolding over

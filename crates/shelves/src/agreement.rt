@@ -1,10 +1,10 @@
 // Two ways to one sheet: a session against Tag, and Replace against tagging afresh.
-use crate::inputs;
-use crate::inputs::KEYS;
-use crate::judge;
-use crate::say;
 use files::Refusal;
 use files::message;
+use trial::inputs;
+use trial::inputs::KEYS;
+use trial::judge;
+use trial::say;
 ghost use Prim.Native.Nat.{_≤_, _<_};
 
 // The line of sheets that should be equal.

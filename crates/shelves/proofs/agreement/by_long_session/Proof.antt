@@ -1,8 +1,8 @@
 -- At most 64 cards are put.
 use Prim.Native.Nat.{_≤_, _-_}
 use borrow.Author.Needs.{needs}
-use Rattle.cases.proofs.agreement.by_long_session.Statement.{statement}
-use Rattle.cases.proofs.agreement.by_long_session.Tie as tie
+use Rattle.shelves.proofs.agreement.by_long_session.Statement.{statement}
+use Rattle.shelves.proofs.agreement.by_long_session.Tie as tie
 
 abbrev Inv-loop : tie.InvT-loop
 Inv-loop out s₀ j₀ t8 s j = j ≤ 64

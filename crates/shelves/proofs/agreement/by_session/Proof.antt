@@ -1,8 +1,8 @@
 -- No more cards are put than the count.
 use Prim.Native.Nat.{_≤_, _-_}
 use borrow.Author.Needs.{needs}
-use Rattle.cases.proofs.agreement.by_session.Statement.{statement}
-use Rattle.cases.proofs.agreement.by_session.Tie as tie
+use Rattle.shelves.proofs.agreement.by_session.Statement.{statement}
+use Rattle.shelves.proofs.agreement.by_session.Tie as tie
 
 abbrev Inv-loop : tie.InvT-loop
 Inv-loop code n shelf out s₀ j₀ s j = j ≤ n

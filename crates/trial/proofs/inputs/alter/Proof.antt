@@ -1,19 +1,16 @@
 -- A number is written inside the buffer, whose length stays.
-use Prim.Native.Nat.{_≤_, _-_}
+use Prim.Native.Nat.{_-_}
 use mathlib.Core.Path.{_≡_}
 use lib.ListN.{length}
 use borrow.Author.Needs.{needs}
-use Rattle.cases.proofs.inputs.put_long_cards.Statement.{statement}
-use Rattle.cases.proofs.inputs.put_long_cards.Tie as tie
+use Rattle.trial.proofs.inputs.alter.Statement.{statement}
+use Rattle.trial.proofs.inputs.alter.Tie as tie
 
 abbrev Inv-loop : tie.InvT-loop
-Inv-loop shelf₀ i₀ shelf i = (i ≤ 63) × (length shelf ≡ length shelf₀)
+Inv-loop shelf₀ a e i₀ shelf i = length shelf ≡ length shelf₀
 
 abbrev μ-loop : tie.MeasureT-loop
-μ-loop shelf₀ i₀ shelf i = 63 - i
-
-put-header-requires : tie.Need-put-header-requires Inv-loop μ-loop
-put-header-requires c κs = search needs
+μ-loop shelf₀ a e i₀ shelf i = e - i
 
 loop-holds : tie.Need-loop-holds Inv-loop μ-loop
 loop-holds c = search needs
@@ -23,6 +20,12 @@ mul-put-number c = search needs
 
 add-put-number : tie.Need-add-put-number Inv-loop μ-loop
 add-put-number c = search needs
+
+add-put-number-2 : tie.Need-add-put-number-2 Inv-loop μ-loop
+add-put-number-2 c = search needs
+
+cast-put-number : tie.Need-cast-put-number Inv-loop μ-loop
+cast-put-number c = search needs
 
 put-number-requires : tie.Need-put-number-requires Inv-loop μ-loop
 put-number-requires c κs = search needs
@@ -42,16 +45,17 @@ same-length c = search needs
 returns : tie.Need-returns Inv-loop μ-loop
 returns c = search needs
 
-pub put-long-cards-spec : {M : Type 1} → statement M
-put-long-cards-spec =
+pub alter-spec : {M : Type 1} → statement M
+alter-spec =
     tie.close
     (tie.spec
     Inv-loop
     μ-loop
-    put-header-requires
     loop-holds
     mul-put-number
     add-put-number
+    add-put-number-2
+    cast-put-number
     put-number-requires
     add-i
     loop-less

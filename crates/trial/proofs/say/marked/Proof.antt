@@ -2,8 +2,8 @@
 use Prim.Native.Nat.{_≤_, _-_}
 use lib.ListN.{length}
 use borrow.Author.Needs.{needs}
-use Rattle.cases.proofs.say.marked.Statement.{statement}
-use Rattle.cases.proofs.say.marked.Tie as tie
+use Rattle.trial.proofs.say.marked.Statement.{statement}
+use Rattle.trial.proofs.say.marked.Tie as tie
 
 abbrev Inv-loop : tie.InvT-loop
 Inv-loop marks i₀ t3 i = i ≤ length marks

@@ -4,8 +4,8 @@ use mathlib.Core.Logic.{⊎-elim}
 use native.Mathlib.Omega.{arith}
 use lib.ListN.{length}
 use borrow.Author.Needs.{needs}
-use Rattle.cases.proofs.judge.count.Statement.{statement}
-use Rattle.cases.proofs.judge.count.Tie as tie
+use Rattle.trial.proofs.judge.count.Statement.{statement}
+use Rattle.trial.proofs.judge.count.Tie as tie
 
 abbrev Inv-loop : tie.InvT-loop
 Inv-loop bytes x n₀ i₀ n i = (n ≤ i) × (i ≤ length bytes)

@@ -14,14 +14,10 @@ pub const ONE_EMPTY: [u8; 10] = *b"TBS\x00\x01\x00\x01\x00\x00\x00";
 pub const SHELF: [u8; 12] = *b"TBS\x00\x01\x00\x02\x00\x01a\x00\x00";
 
 // Writes bytes at a place.
-pub fn put(out: &mut [u8], at: usize, bytes: &[u8])
-    requires { ⌜ at + length (now bytes) ≤ length (now out) ⌝ }
+pub fn put(out: &mut [u8], at: usize, text: &[u8])
+    requires { ⌜ at + length (now text) ≤ length (now out) ⌝ }
 {
-    let mut i = 0;
-    while i < bytes.len() {
-        out[at + i] = bytes[i];
-        i += 1;
-    }
+    bytes::copy(text, &mut out[at..]);
 }
 
 // Writes a number as two bytes at a place.

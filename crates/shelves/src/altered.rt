@@ -1,10 +1,10 @@
 // Reports on altered shelves: 0, 1, d and d + 1 altered cards at each size, and the bench card of the report.
-use crate::inputs;
-use crate::inputs::KEYS;
-use crate::judge;
-use crate::say;
 use incidence::Answer;
 use scheme::Reported;
+use trial::inputs;
+use trial::inputs::KEYS;
+use trial::judge;
+use trial::say;
 ghost use Prim.Native.Nat.{_≤_};
 
 // Document 01: cards the single bytes 01 to 07.
