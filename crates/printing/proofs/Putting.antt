@@ -49,6 +49,17 @@ put-as at r t u s s′ e p = subst (λ (x : List ℕ). Put at x s r s′) e p
 pub room-as : (at room : ℕ) (t u : List ℕ) → t ≡ u → at + length u ≤ room → at + length t ≤ room
 room-as at room t u e h = subst (λ (x : List ℕ). at + length x ≤ room) (sym e) h
 
+-- a text of at most so many bytes: there is room for it, and its end is told
+pub room-for : (at room long most : ℕ) → long ≤ most → at + most ≤ room → at + long ≤ room
+room-for at room long most h l = omega arith
+
+pub put-short : (at r most : ℕ) (text s s′ : List ℕ) → length text ≤ most → Put at text s r s′
+    → (s′ ≡ over at text s) × ((r ≡ at + length text) × (r ≤ at + most))
+put-short at r most text s s′ h p =
+    let e = p .1 in
+    let l : r ≤ at + most = omega (arith, e) in
+    (p .0, (p .1, l))
+
 -- at the front
 pub put-front : (r : ℕ) (text s s′ : List ℕ) → Put 0 text s r s′ → (s′ ≡ over 0 text s) × (r ≡ length text)
 put-front r text s s′ p = (p .0, p .1 ∙ zero-add (length text))

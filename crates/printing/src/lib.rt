@@ -1,9 +1,10 @@
-// What the programs print, put into a lent buffer: each function puts its text at a place and gives the place behind it.
+// What the programs print, put into a lent buffer: each function puts its text at a place and gives the place behind it. Lines ask for as much
+// room as they can ever take.
 use files::Refusal;
 use incidence::Answer;
 ghost use mathlib.Core.Path.{_≡_};
 ghost use mathlib.Core.List.{_++_};
-ghost use Prim.Native.Nat.{_+_, _≤_};
+ghost use Prim.Native.Nat.{_+_, _*_, _≤_};
 ghost use lib.ListN.{length};
 ghost use Rattle.printing.specs.Text.{decimal, over};
 ghost use Rattle.printing.specs.Lines.{limitsLine, answerWord, answerLine, cardPart, cardLine, cardLines, reportLines, refusedLine};
@@ -48,9 +49,10 @@ pub fn put_labelled(out: &mut [u8], at: usize, word: &[u8], n: u64) -> usize
 
 // Puts the line that says a refusal.
 pub fn put_refused(out: &mut [u8], at: usize, r: Refusal) -> usize
-    requires { ⌜ at + length (refusedLine r) ≤ length (now out) ⌝ }
+    requires { ⌜ at + 56 ≤ length (now out) ⌝ }
     ensures written { λ _. ⌜ now (out .exit) ≡ over at (refusedLine r) (now (out .entry)) ⌝ }
     ensures behind { λ q. ⌜ q ≡ at + length (refusedLine r) ⌝ }
+    ensures short { λ q. ⌜ q ≤ at + 56 ⌝ }
 {
     let next = put_labelled(out, at, b"refused ", r.number as u64);
     let next = put_labelled(out, next, b" place ", r.place as u64);
@@ -59,9 +61,10 @@ pub fn put_refused(out: &mut [u8], at: usize, r: Refusal) -> usize
 
 // Puts the line of a message's count and of the tags and the limit of its size.
 pub fn put_limits(out: &mut [u8], at: usize, code: u64, n: usize) -> usize
-    requires { ⌜ at + length (limitsLine code n) ≤ length (now out) ⌝ }
+    requires { ⌜ at + 80 ≤ length (now out) ⌝ }
     ensures written { λ _. ⌜ now (out .exit) ≡ over at (limitsLine code n) (now (out .entry)) ⌝ }
     ensures behind { λ r. ⌜ r ≡ at + length (limitsLine code n) ⌝ }
+    ensures short { λ r. ⌜ r ≤ at + 80 ⌝ }
 {
     let next = put_labelled(out, at, b"cards ", n as u64);
     let next = put_labelled(out, next, b" tags ", sizes::tags(code) as u64);
@@ -83,9 +86,10 @@ fn put_word(out: &mut [u8], at: usize, said: Answer) -> usize
 
 // Puts the line of a report's answer, the number named and the number of disagreeing rows.
 pub fn put_answer(out: &mut [u8], at: usize, said: Answer, named: usize, rows: usize) -> usize
-    requires { ⌜ at + length (answerLine said named rows) ≤ length (now out) ⌝ }
+    requires { ⌜ at + 54 ≤ length (now out) ⌝ }
     ensures written { λ _. ⌜ now (out .exit) ≡ over at (answerLine said named rows) (now (out .entry)) ⌝ }
     ensures behind { λ r. ⌜ r ≡ at + length (answerLine said named rows) ⌝ }
+    ensures short { λ r. ⌜ r ≤ at + 54 ⌝ }
 {
     let next = put_word(out, at, said);
     let next = put_labelled(out, next, b" ", named as u64);
@@ -108,10 +112,10 @@ fn put_card(out: &mut [u8], at: usize, mark: u8, j: usize) -> usize
 
 // Puts the lines of the named cards among the first n.
 pub fn put_cards(out: &mut [u8], at: usize, marks: &[u8], n: usize) -> usize
-    requires { ⌜ n ≤ length (now marks) ⌝ }
-    requires { ⌜ at + length (cardLines (now marks) n) ≤ length (now out) ⌝ }
+    requires { ⌜ (n ≤ length (now marks)) × (at + 26 * n ≤ length (now out)) ⌝ }
     ensures written { λ _. ⌜ now (out .exit) ≡ over at (cardLines (now (marks .entry)) n) (now (out .entry)) ⌝ }
     ensures behind { λ r. ⌜ r ≡ at + length (cardLines (now (marks .entry)) n) ⌝ }
+    ensures short { λ r. ⌜ r ≤ at + 26 * n ⌝ }
 {
     let mut next = at;
     let mut j = 0;
@@ -136,6 +140,7 @@ pub fn put_report(
     requires { ⌜ (7232 ≤ length (now out)) × (k ≤ 273) × (k ≤ length (now marks)) ⌝ }
     ensures written { λ _. ⌜ now (out .exit) ≡ over 0 (reportLines code n said named rows (now (marks .entry)) k) (now (out .entry)) ⌝ }
     ensures behind { λ r. ⌜ r ≡ length (reportLines code n said named rows (now (marks .entry)) k) ⌝ }
+    ensures short { λ r. ⌜ r ≤ 7232 ⌝ }
 {
     let at = put_limits(out, 0, code, n);
     let at = put_answer(out, at, said, named, rows);

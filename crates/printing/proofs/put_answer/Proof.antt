@@ -1,8 +1,10 @@
 -- Four texts, one behind the other (Putting).
 use Rattle.printing.specs.Text.{ascii, labelled}
 use Rattle.printing.specs.Lines.{answerWord, answerLine}
-use Rattle.printing.proofs.Putting.{four₁, four₂, four₃, four₄, four}
+use Rattle.printing.proofs.Putting.{room-for, put-short, four₁, four₂, four₃, four₄, four}
 use denote.Ref.{now}
+use lib.ListN.{length}
+use Rattle.printing.proofs.Lengths.{answer-short}
 use borrow.Author.Needs.{needs}
 use Rattle.printing.proofs.put_answer.Statement.{statement}
 use Rattle.printing.proofs.put_answer.Tie as tie
@@ -11,7 +13,9 @@ put-word-requires : tie.Need-put-word-requires
 unfolding answerLine labelled ascii
 put-word-requires c κs =
     let d = c .before .before in
-    four₁ (d .args .at) (answerWord (d .args .said)) (labelled " " (d .args .named)) (labelled " rows " (d .args .rows)) (ascii "\n") (now (d .args .out)) (d .pre)
+    let few = answer-short (d .args .said) (d .args .named) (d .args .rows) (search needs) (search needs) in
+    let fits = room-for (d .args .at) (length (now (d .args .out))) (length (answerLine (d .args .said) (d .args .named) (d .args .rows))) 54 few (d .pre) in
+    four₁ (d .args .at) (answerWord (d .args .said)) (labelled " " (d .args .named)) (labelled " rows " (d .args .rows)) (ascii "\n") (now (d .args .out)) fits
 
 slice-aggregate-put-labelled : tie.Need-slice-aggregate-put-labelled
 slice-aggregate-put-labelled c = search needs
@@ -20,7 +24,9 @@ put-labelled-requires : tie.Need-put-labelled-requires
 unfolding answerLine labelled ascii
 put-labelled-requires c κs =
     let d = c .before .before .before .before .before .before .before in
-    four₂ (d .args .at) (answerWord (d .args .said)) (labelled " " (d .args .named)) (labelled " rows " (d .args .rows)) (ascii "\n") (now (d .args .out)) (d .pre) (c .before .before .before .before .put-word .ensures)
+    let few = answer-short (d .args .said) (d .args .named) (d .args .rows) (search needs) (search needs) in
+    let fits = room-for (d .args .at) (length (now (d .args .out))) (length (answerLine (d .args .said) (d .args .named) (d .args .rows))) 54 few (d .pre) in
+    four₂ (d .args .at) (answerWord (d .args .said)) (labelled " " (d .args .named)) (labelled " rows " (d .args .rows)) (ascii "\n") (now (d .args .out)) fits (c .before .before .before .before .put-word .ensures)
 
 slice-aggregate-put-labelled-2 : tie.Need-slice-aggregate-put-labelled-2
 slice-aggregate-put-labelled-2 c = search needs
@@ -29,7 +35,9 @@ put-labelled-requires-2 : tie.Need-put-labelled-requires-2
 unfolding answerLine labelled ascii
 put-labelled-requires-2 c κs =
     let d = c .before .before .before .before .before .before .before .before .before .before .before .before in
-    four₃ (d .args .at) (answerWord (d .args .said)) (labelled " " (d .args .named)) (labelled " rows " (d .args .rows)) (ascii "\n") (now (d .args .out)) (d .pre) (c .before .before .before .before .before .before .before .before .before .put-word .ensures) (c .before .before .before .before .put-labelled .ensures)
+    let few = answer-short (d .args .said) (d .args .named) (d .args .rows) (search needs) (search needs) in
+    let fits = room-for (d .args .at) (length (now (d .args .out))) (length (answerLine (d .args .said) (d .args .named) (d .args .rows))) 54 few (d .pre) in
+    four₃ (d .args .at) (answerWord (d .args .said)) (labelled " " (d .args .named)) (labelled " rows " (d .args .rows)) (ascii "\n") (now (d .args .out)) fits (c .before .before .before .before .before .before .before .before .before .put-word .ensures) (c .before .before .before .before .put-labelled .ensures)
 
 slice-aggregate-put : tie.Need-slice-aggregate-put
 slice-aggregate-put c = search needs
@@ -38,7 +46,9 @@ put-requires : tie.Need-put-requires
 unfolding answerLine labelled ascii
 put-requires c κs =
     let d = c .before .before .before .before .before .before .before .before .before .before .before .before .before .before .before .before .before in
-    four₄ (d .args .at) (answerWord (d .args .said)) (labelled " " (d .args .named)) (labelled " rows " (d .args .rows)) (ascii "\n") (now (d .args .out)) (d .pre) (c .before .before .before .before .before .before .before .before .before .before .before .before .before .before .put-word .ensures) (c .before .before .before .before .before .before .before .before .before .put-labelled .ensures) (c .before .before .before .before .put-labelled2 .ensures)
+    let few = answer-short (d .args .said) (d .args .named) (d .args .rows) (search needs) (search needs) in
+    let fits = room-for (d .args .at) (length (now (d .args .out))) (length (answerLine (d .args .said) (d .args .named) (d .args .rows))) 54 few (d .pre) in
+    four₄ (d .args .at) (answerWord (d .args .said)) (labelled " " (d .args .named)) (labelled " rows " (d .args .rows)) (ascii "\n") (now (d .args .out)) fits (c .before .before .before .before .before .before .before .before .before .before .before .before .before .before .put-word .ensures) (c .before .before .before .before .before .before .before .before .before .put-labelled .ensures) (c .before .before .before .before .put-labelled2 .ensures)
 
 same-length : tie.Need-same-length
 same-length c = search needs
@@ -47,7 +57,9 @@ returns : tie.Need-returns
 unfolding answerLine labelled ascii
 returns c =
     let d = c .before .before .before .before .before .before .before .before .before .before .before .before .before .before .before .before .before .before .before .before in
-    four (d .args .at) (answerWord (d .args .said)) (labelled " " (d .args .named)) (labelled " rows " (d .args .rows)) (ascii "\n") (now (d .args .out)) (d .pre) (c .before .before .before .before .before .before .before .before .before .before .before .before .before .before .before .before .before .put-word .ensures) (c .before .before .before .before .before .before .before .before .before .before .before .before .put-labelled .ensures) (c .before .before .before .before .before .before .before .put-labelled2 .ensures) (c .before .before .put .ensures)
+    let few = answer-short (d .args .said) (d .args .named) (d .args .rows) (search needs) (search needs) in
+    let fits = room-for (d .args .at) (length (now (d .args .out))) (length (answerLine (d .args .said) (d .args .named) (d .args .rows))) 54 few (d .pre) in
+    put-short _ _ 54 _ _ _ few (four (d .args .at) (answerWord (d .args .said)) (labelled " " (d .args .named)) (labelled " rows " (d .args .rows)) (ascii "\n") (now (d .args .out)) fits (c .before .before .before .before .before .before .before .before .before .before .before .before .before .before .before .before .before .put-word .ensures) (c .before .before .before .before .before .before .before .before .before .before .before .before .put-labelled .ensures) (c .before .before .before .before .before .before .before .put-labelled2 .ensures) (c .before .before .put .ensures))
 
 pub put-answer-spec : {M : Type 1} → statement M
 put-answer-spec =

@@ -1,12 +1,13 @@
 -- Each turn puts one card's line behind those that stand (Putting, CardLines).
 use mathlib.Core.Path.{_≡_, sym, ap}
-use Prim.Native.Nat.{_+_, _-_, _≤_}
+use Prim.Native.Nat.{_+_, _-_, _*_, _≤_}
 use native.Mathlib.Omega.{arith}
-use lib.ListN.{getD}
+use lib.ListN.{length, getD}
 use denote.Ref.{now}
 use Rattle.printing.specs.Lines.{cardPart, cardLines}
-use Rattle.printing.proofs.Putting.{Put, put-none, put-as, put-size, two₂, two}
+use Rattle.printing.proofs.Putting.{room-for, put-short, Put, put-none, put-as, put-size, two₂, two}
 use Rattle.printing.proofs.CardLines.{lines-next, lines-fewer, lines-room}
+use Rattle.printing.proofs.Lengths.{cards-short}
 use borrow.Author.Needs.{needs}
 use Rattle.printing.proofs.put_cards.Statement.{statement}
 use Rattle.printing.proofs.put_cards.Tie as tie
@@ -35,7 +36,9 @@ put-card-requires c κs =
     let d = c .before .before .before .before .before .before in
     let marks = now (d .args .marks) in
     let j = l .loop .j in
-    two₂ (d .args .at) (cardLines marks j) (cardPart (getD marks j 0) (j + 1)) (now (d .args .out)) (lines-room (d .args .at) j (d .args .n) marks (now (d .args .out)) (omega arith) (d .pre .1)) (l .loop .inv .1)
+    let few = cards-short marks (d .args .n) (search needs) in
+    let fits = room-for (d .args .at) (length (now (d .args .out))) (length (cardLines marks (d .args .n))) (26 * d .args .n) few (d .pre .1) in
+    two₂ (d .args .at) (cardLines marks j) (cardPart (getD marks j 0) (j + 1)) (now (d .args .out)) (lines-room (d .args .at) j (d .args .n) marks (now (d .args .out)) (omega arith) fits) (l .loop .inv .1)
 
 add-j : tie.Need-add-j Inv-loop μ-loop
 add-j c = search needs
@@ -49,7 +52,9 @@ loop-again c =
     let d = c .before .before .before .before .before .before .before .before .before in
     let marks = now (d .args .marks) in
     let j = l .loop .j in
-    (omega arith, put-as _ _ _ _ _ _ (sym (lines-next marks j)) (two (d .args .at) (cardLines marks j) (cardPart (getD marks j 0) (j + 1)) (now (d .args .out)) (lines-room (d .args .at) j (d .args .n) marks (now (d .args .out)) (omega arith) (d .pre .1)) (l .loop .inv .1) (c .before .before .put-card .ensures)))
+    let few = cards-short marks (d .args .n) (search needs) in
+    let fits = room-for (d .args .at) (length (now (d .args .out))) (length (cardLines marks (d .args .n))) (26 * d .args .n) few (d .pre .1) in
+    (omega arith, put-as _ _ _ _ _ _ (sym (lines-next marks j)) (two (d .args .at) (cardLines marks j) (cardPart (getD marks j 0) (j + 1)) (now (d .args .out)) (lines-room (d .args .at) j (d .args .n) marks (now (d .args .out)) (omega arith) fits) (l .loop .inv .1) (c .before .before .put-card .ensures)))
 
 same-length : tie.Need-same-length Inv-loop μ-loop
 same-length c =
@@ -57,8 +62,10 @@ same-length c =
     let d = c .before .before .before .before in
     let marks = now (d .args .marks) in
     let j = l .loop .j in
+    let few = cards-short marks (d .args .n) (search needs) in
+    let fits = room-for (d .args .at) (length (now (d .args .out))) (length (cardLines marks (d .args .n))) (26 * d .args .n) few (d .pre .1) in
     let h = lines-fewer marks j (d .args .n) (l .loop .inv .0) in
-    put-size (d .args .at) (l .loop .next) (cardLines marks j) (now (d .args .out)) (l .loop .out) (omega (arith, h)) (l .loop .inv .1)
+    put-size (d .args .at) (l .loop .next) (cardLines marks j) (now (d .args .out)) (l .loop .out) (omega (arith, h, fits)) (l .loop .inv .1)
 
 returns : tie.Need-returns Inv-loop μ-loop
 returns c =
@@ -66,8 +73,10 @@ returns c =
     let d = c .before .before .before .before in
     let marks = now (d .args .marks) in
     let j = l .loop .j in
+    let few = cards-short marks (d .args .n) (search needs) in
+    let fits = room-for (d .args .at) (length (now (d .args .out))) (length (cardLines marks (d .args .n))) (26 * d .args .n) few (d .pre .1) in
     let e : j ≡ d .args .n = omega arith in
-    put-as _ _ _ _ _ _ (ap (cardLines marks) e) (l .loop .inv .1)
+    put-short _ _ (26 * d .args .n) _ _ _ few (put-as _ _ _ _ _ _ (ap (cardLines marks) e) (l .loop .inv .1))
 
 pub put-cards-spec : {M : Type 1} → statement M
 put-cards-spec =

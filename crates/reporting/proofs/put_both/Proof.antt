@@ -9,7 +9,6 @@ use Rattle.printing.specs.Text.{over}
 use Rattle.files.specs.Message.{count}
 use Rattle.sizes.proofs.Laws.{tags-few}
 use Rattle.printing.proofs.Putting.{put-as, put-front}
-use Rattle.printing.proofs.Lengths.{refused-short}
 use Rattle.scheme.proofs.Checking.{taggable}
 use Rattle.reporting.proofs.Texts.{tag-refused, tag-done, tag-file}
 use borrow.Author.Needs.{needs}
@@ -23,10 +22,7 @@ tag-requires : tie.Need-tag-requires
 tag-requires c κs = search needs
 
 put-refused-requires : tie.Need-put-refused-requires
-put-refused-requires c κs =
-    let d = c .before .before .before .before .before .before .before .before .before .before in
-    let short = refused-short (c .before .before .before .before .tag .result) (search needs) (search needs) in
-    omega arith
+put-refused-requires c κs = search needs
 
 same-length : tie.Need-same-length
 same-length c = search needs
@@ -36,7 +32,8 @@ returns c =
     let d = c .before .before .before .before .before .before .before .before .before .before .before .before .before in
     let a = d .args in
     let r = c .before .before .before .before .before .before .before .tag in
-    put-front _ _ _ _ (put-as _ _ _ _ _ _ (tag-refused (now (a .keys)) (a .code) (now (a .first)) (now (a .second)) (r .result) (r .ensures .0) (c .before .before .before .before .if1 .taken)) (c .before .before .put-refused .ensures))
+    let p = c .before .before .put-refused .ensures in
+    put-front _ _ _ _ (put-as _ _ _ _ _ _ (tag-refused (now (a .keys)) (a .code) (now (a .first)) (now (a .second)) (r .result) (r .ensures .0) (c .before .before .before .before .if1 .taken)) (p .0, p .1 .0))
 
 number16-requires : tie.Need-number16-requires
 number16-requires c κs =

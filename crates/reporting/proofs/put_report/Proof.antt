@@ -7,7 +7,6 @@ use native.Mathlib.Omega.{arith}
 use lib.ListN.{length}
 use denote.Ref.{now}
 use Rattle.printing.proofs.Putting.{put-as, put-front}
-use Rattle.printing.proofs.Lengths.{refused-short}
 use Rattle.files.specs.Message.{count}
 use Rattle.scheme.proofs.Checking.{reportable}
 use Rattle.reporting.proofs.Texts.{report-refused, report-done}
@@ -22,10 +21,7 @@ report-requires : tie.Need-report-requires
 report-requires c κs = search needs
 
 put-refused-requires : tie.Need-put-refused-requires
-put-refused-requires c κs =
-    let d = c .before .before .before .before .before .before .before .before .before .before .before in
-    let short = refused-short (c .before .before .before .before .before .report .result .refused) (search needs) (search needs) in
-    omega arith
+put-refused-requires c κs = search needs
 
 same-length : tie.Need-same-length
 same-length c = search needs
@@ -35,7 +31,8 @@ returns c =
     let d = c .before .before .before .before .before .before .before .before .before .before .before .before .before .before in
     let a = d .args in
     let r = c .before .before .before .before .before .before .before .before .report in
-    put-front _ _ _ _ (put-as _ _ _ _ _ _ (report-refused (now (a .keys)) (a .code) (a .n) (now (a .s)) (now (a .file)) (r .result .refused) (r .ensures .0) (c .before .before .before .before .if1 .taken)) (c .before .before .put-refused .ensures))
+    let p = c .before .before .put-refused .ensures in
+    put-front _ _ _ _ (put-as _ _ _ _ _ _ (report-refused (now (a .keys)) (a .code) (a .n) (now (a .s)) (now (a .file)) (r .result .refused) (r .ensures .0) (c .before .before .before .before .if1 .taken)) (p .0, p .1 .0))
 
 number16-requires : tie.Need-number16-requires
 number16-requires c κs =
@@ -72,7 +69,7 @@ returns-2 c =
     let e = r .ensures .1 in
     let p = c .before .before .put-report .ensures in
     let w = report-done (now (a .keys)) (a .code) (a .n) (now (a .s)) (now (a .file)) (r .result .refused) (r .ensures .0) (c .before .before .before .before .before .before .if1 .left) _ _ _ _ _ (e .1 .0) (e .1 .1 .0) (e .1 .1 .1 .0) (e .0) (c .before .before .before .before .before .number16 .ensures .0) in
-    (p .0 ∙ ap (λ (t : List ℕ). over 0 t (now (a .out))) w, p .1 ∙ ap length w)
+    (p .0 ∙ ap (λ (t : List ℕ). over 0 t (now (a .out))) w, p .1 .0 ∙ ap length w)
 
 pub put-report-spec : {M : Type 1} → statement M
 put-report-spec =

@@ -1,0 +1,56 @@
+-- What Append says of the card, at its place (Placing).
+use native.Mathlib.Omega.{arith}
+use Rattle.command.proofs.Placing.{placed-none, said-so, size-refused, size-more, size-inside, size-small}
+use borrow.Author.Needs.{needs}
+use Rattle.command.proofs.packs.add_card.Statement.{statement}
+use Rattle.command.proofs.packs.add_card.Tie as tie
+
+append-requires : tie.Need-append-requires
+append-requires c κs = search needs
+
+placed-requires : tie.Need-placed-requires
+placed-requires c κs = search needs
+
+same-length : tie.Need-same-length
+same-length c = search needs
+
+returns : tie.Need-returns
+returns c =
+    let d = c .before .before .before .before .before .before .before .before .before in
+    let a = c .before .before .before .before .before .append in
+    (said-so (d .args .file .now) (d .args .n) (d .args .card .now) (d .args .k) _ (a .ensures .0) _ (c .placed .ensures), (size-refused (d .args .file .now) (d .args .n) (d .args .card .now) (d .args .k) _ (a .ensures .0) (c .before .if1 .taken), (a .ensures .1, search needs)))
+
+add-t10 : tie.Need-add-t10
+add-t10 c =
+    let d = c .before .before .before .before .before .before .before .before in
+    let a = c .before .before .before .before .append in
+    omega (arith, size-small (d .args .file .now) (d .args .n) (d .args .card .now) (d .args .k) _ (a .ensures .0) (c .if1 .left))
+
+add-t12 : tie.Need-add-t12
+add-t12 c =
+    let d = c .before .before .before .before .before .before .before .before in
+    let a = c .before .before .before .before .append in
+    omega (arith, size-small (d .args .file .now) (d .args .n) (d .args .card .now) (d .args .k) _ (a .ensures .0) (c .if1 .left))
+
+same-length-2 : tie.Need-same-length-2
+same-length-2 c = search needs
+
+returns-2 : tie.Need-returns-2
+returns-2 c =
+    let d = c .before .before .before .before .before .before .before .before in
+    let a = c .before .before .before .before .append in
+    let h = size-inside (d .args .file .now) (d .args .n) (d .args .card .now) (d .args .k) _ (a .ensures .0) (c .if1 .left) in
+    (said-so (d .args .file .now) (d .args .n) (d .args .card .now) (d .args .k) _ (a .ensures .0) _ (placed-none _ _ (c .if1 .left)), (size-more (d .args .file .now) (d .args .n) (d .args .card .now) (d .args .k) _ (a .ensures .0) (c .if1 .left), (a .ensures .1, omega (arith, h))))
+
+pub add-card-spec : {M : Type 1} → statement M
+add-card-spec =
+    tie.close
+    (tie.spec
+    append-requires
+    placed-requires
+    same-length
+    returns
+    add-t10
+    add-t12
+    same-length-2
+    returns-2)

@@ -1,0 +1,66 @@
+// The lines that the command prints beside the report program's, put like those of the crate printing, and the name of a file that is not
+// whole yet.
+use files::message;
+ghost use mathlib.Core.Path.{_≡_};
+ghost use Prim.Native.Nat.{_+_, _*_, _≤_, _<_};
+ghost use lib.ListN.{length};
+ghost use Rattle.files.specs.TagFile.{fileSize};
+ghost use Rattle.printing.specs.Text.{over};
+ghost use Rattle.command.specs.Said.{countLine, itemLine, temporaryName, sizeAt};
+
+// Puts the line of how many cards there are.
+pub fn put_count_line(out: &mut [u8], at: usize, n: usize) -> usize
+    requires { ⌜ at + 27 ≤ length (now out) ⌝ }
+    ensures written { λ _. ⌜ now (out .exit) ≡ over at (countLine n) (now (out .entry)) ⌝ }
+    ensures behind { λ r. ⌜ r ≡ at + length (countLine n) ⌝ }
+    ensures short { λ r. ⌜ r ≤ at + 27 ⌝ }
+{
+    let next = printing::put_labelled(out, at, b"cards ", n as u64);
+    printing::put(out, next, b"\n")
+}
+
+// Puts the line of a card and its length.
+pub fn put_item_line(out: &mut [u8], at: usize, j: usize, long: usize) -> usize
+    requires { ⌜ at + 53 ≤ length (now out) ⌝ }
+    ensures written { λ _. ⌜ now (out .exit) ≡ over at (itemLine j long) (now (out .entry)) ⌝ }
+    ensures behind { λ r. ⌜ r ≡ at + length (itemLine j long) ⌝ }
+    ensures short { λ r. ⌜ r ≤ at + 53 ⌝ }
+{
+    let next = printing::put_labelled(out, at, b"card ", j as u64);
+    let next = printing::put_labelled(out, next, b" bytes ", long as u64);
+    printing::put(out, next, b"\n")
+}
+
+// Puts the name under which a file is written until it is whole, to the front of out.
+pub fn put_temporary(out: &mut [u8], name: &[u8], process: u64) -> usize
+    requires { ⌜ length (now name) + 25 ≤ length (now out) ⌝ }
+    ensures written { λ _. ⌜ now (out .exit) ≡ over 0 (temporaryName (now (name .entry)) process) (now (out .entry)) ⌝ }
+    ensures behind { λ r. ⌜ r ≡ length (temporaryName (now (name .entry)) process) ⌝ }
+    ensures short { λ r. ⌜ r ≤ length (now (name .entry)) + 25 ⌝ }
+{
+    let next = printing::put(out, 0, name);
+    let next = printing::put_labelled(out, next, b".", process);
+    printing::put(out, next, b".new")
+}
+
+// The length of a card that stands at a place of a message, 0 past its end.
+pub fn size_at(s: &[u8], at: usize) -> usize
+    ensures size { λ r. ⌜ r ≡ sizeAt (now (s .entry)) at ⌝ }
+    ensures short { λ r. ⌜ r < 65536 ⌝ }
+{
+    if s.len() < 2 {
+        return 0;
+    }
+    if s.len() - 2 < at {
+        return 0;
+    }
+    message::number16(s, at)
+}
+
+// The length of a tag file.
+pub fn file_size(code: u64) -> usize
+    ensures size { λ r. ⌜ r ≡ fileSize code ⌝ }
+    ensures short { λ r. ⌜ r ≤ 1336 ⌝ }
+{
+    24 + 16 * sizes::tags(code)
+}

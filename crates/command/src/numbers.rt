@@ -1,0 +1,56 @@
+// A number typed as a word.
+ghost use mathlib.Core.Path.{_≡_};
+ghost use mathlib.Core.Bool.{_&&_};
+ghost use Prim.Native.Nat.{_+_, _-_, _*_, _^_, _≤_, _<_};
+ghost use lib.Dec.{ltb};
+ghost use Rattle.command.specs.Numbers.{isDigit, withDigit, numberIn};
+
+// A number that a text writes, or that it writes none: the value is 0 then.
+pub struct Parsed {
+    pub ok: bool,
+    pub value: u64,
+}
+
+// Whether a byte is a digit that leaves the number below 2^64.
+fn fits(v: u64, b: u8) -> bool
+    ensures { λ r. ⌜ r ≡ (isDigit b && ltb (withDigit v b) (2 ^ 64)) ⌝ }
+{
+    if b < 48 {
+        return false;
+    }
+    if 57 < b {
+        return false;
+    }
+    v <= (u64::MAX - (b - 48) as u64) / 10
+}
+
+// The number with one digit more.
+fn with_digit(v: u64, b: u8) -> u64
+    requires { ⌜ (48 ≤ b) × (10 * v + (b - 48) < 2 ^ 64) ⌝ }
+    ensures { λ r. ⌜ r ≡ withDigit v b ⌝ }
+{
+    10 * v + (b - 48) as u64
+}
+
+// The number that a text writes: decimal digits, at least one, and nothing else, of a value below 2^64.
+pub fn number_in(text: &[u8]) -> Parsed
+    ensures { λ r. ⌜ r ≡ numberIn (now (text .entry)) ⌝ }
+{
+    let mut value = 0;
+    let mut i = 0;
+    while i < text.len() {
+        let b = text[i];
+        if !fits(value, b) {
+            return Parsed {
+                ok: false,
+                value: 0,
+            };
+        }
+        value = with_digit(value, b);
+        i += 1;
+    }
+    Parsed {
+        ok: 0 < i,
+        value: value,
+    }
+}

@@ -1,0 +1,146 @@
+// Pack, fetch and list: the commands on message files that need no keys.
+use crate::input;
+use crate::output;
+use crate::say;
+use crate::words;
+use command::lines;
+use command::packs;
+use files::message;
+ghost use Prim.Native.Nat.{_≤_, _<_};
+ghost use lib.ListN.{length};
+
+// Appends the card file that word i names to the message of n bytes, and answers how many bytes it has then, 0 where it cannot; says why.
+fn append_file(file: &mut [u8], n: usize, i: usize) -> usize
+    requires { ⌜ 3 ≤ i ⌝ }
+    ensures { λ r. ⌜ r ≤ length (now (file .exit)) ⌝ }
+{
+    let mut card = [0u8; 1025];
+    let got = input::read(i, &mut card);
+    if !got.ok {
+        return 0;
+    }
+    let long = got.n;
+    let step = packs::add_card(file, n, &card[0..long], i - 2);
+    let refused = step.refused;
+    if refused.number != 0 {
+        say::refused(refused);
+        return 0;
+    }
+    step.size
+}
+
+// Appends the card files that the words 3 to count - 1 name, as append_file does one.
+fn append_files(file: &mut [u8], count: usize) -> usize
+    requires { ⌜ 7 ≤ length (now file) ⌝ }
+    ensures { λ r. ⌜ r ≤ length (now (file .exit)) ⌝ }
+{
+    let mut n = 7;
+    let mut i = 3;
+    while i < count {
+        n = append_file(file, n, i);
+        if n == 0 {
+            return 0;
+        }
+        i += 1;
+    }
+    n
+}
+
+fn say_count(n: usize) -> bool {
+    let mut line = [0u8; 27];
+    let e = lines::put_count_line(&mut line, 0, n);
+    say::result(&line[0..e])
+}
+
+pub fn pack() {
+    let count = os::arg_count();
+    if count < 4 {
+        say::error(b"a missing word", b"");
+        return;
+    }
+    let mut file = [0u8; 65536];
+    packing::begin(&mut file);
+    let n = append_files(&mut file, count);
+    if n == 0 {
+        return;
+    }
+    if output::write(2, &file[0..n]) {
+        say_count(count - 3);
+    }
+}
+
+fn fetch_card(s: &[u8], j: u64) {
+    let refused = message::fetch_refusal(s, j);
+    if refused.number != 0 {
+        say::refused(refused);
+        return;
+    }
+    say::result(message::fetch(s, j));
+}
+
+pub fn fetch() {
+    if !words::exactly(4) {
+        return;
+    }
+    let number = words::number(3);
+    if !number.ok {
+        return;
+    }
+    let mut message = [0u8; 65537];
+    let m = input::read(2, &mut message);
+    if m.ok {
+        let n = m.n;
+        fetch_card(&message[0..n], number.value);
+    }
+}
+
+fn say_card(j: usize, long: usize) -> bool {
+    let mut line = [0u8; 53];
+    let e = lines::put_item_line(&mut line, 0, j, long);
+    say::result(&line[0..e])
+}
+
+// Says the cards of a message that is not refused and has so many.
+fn list_cards(s: &[u8], count: usize)
+    requires { ⌜ count < 65536 ⌝ }
+{
+    let mut at = 7;
+    let mut j = 0;
+    while j < count {
+        let long = lines::size_at(s, at);
+        if !say_card(j + 1, long) {
+            return;
+        }
+        at = at + 2 + long;
+        j += 1;
+    }
+}
+
+// Lists a message. A message without cards has no card 1, which is 8: its list is empty.
+fn list_message(s: &[u8], count: usize)
+    requires { ⌜ count < 65536 ⌝ }
+{
+    let refused = message::fetch_refusal(s, 1);
+    if refused.number != 0 {
+        if refused.number != 8 {
+            say::refused(refused);
+            return;
+        }
+    }
+    if say_count(count) {
+        list_cards(s, count);
+    }
+}
+
+pub fn list() {
+    if !words::exactly(3) {
+        return;
+    }
+    let mut message = [0u8; 65537];
+    let m = input::read(2, &mut message);
+    if m.ok {
+        let n = m.n;
+        let count = message::number16(&message, 5);
+        list_message(&message[0..n], count);
+    }
+}

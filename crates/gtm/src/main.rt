@@ -1,0 +1,55 @@
+// The command for people: packs card files into a message file, tags it, verifies and reports it, replaces a card in its tag file, and
+// lists and fetches its cards. What it computes is proved in the crates below; here it reads and writes.
+mod cards;
+mod input;
+mod judging;
+mod output;
+mod say;
+mod tagfiles;
+mod words;
+
+// Runs the command that a word names.
+fn run(word: &[u8]) {
+    if check::same(word, b"pack") {
+        cards::pack();
+    } else if check::same(word, b"tag") {
+        tagfiles::tag();
+    } else if check::same(word, b"verify") {
+        judging::verify();
+    } else if check::same(word, b"report") {
+        judging::report();
+    } else if check::same(word, b"replace") {
+        tagfiles::replace();
+    } else {
+        run_small(word);
+    }
+}
+
+// The commands that need no keys.
+fn run_small(word: &[u8]) {
+    if check::same(word, b"fetch") {
+        cards::fetch();
+    } else if check::same(word, b"list") {
+        cards::list();
+    } else if check::same(word, b"help") {
+        help();
+    } else {
+        say::error(b"an unknown command: ", word);
+    }
+}
+
+fn help() {
+    if words::exactly(2) {
+        say::usage(1);
+    }
+}
+
+fn main() {
+    if os::arg_count() < 2 {
+        say::error(b"a missing word", b"");
+        return;
+    }
+    let mut word = io::buffer();
+    let n = os::arg(1, &mut word);
+    run(&word[0..n]);
+}

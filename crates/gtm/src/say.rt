@@ -1,0 +1,99 @@
+// What is said to the person: results on standard output, refusals and errors on standard error.
+use files::Refusal;
+use libc::STDERR_FILENO;
+use libc::STDOUT_FILENO;
+
+fn err(text: &[u8]) {
+    io::write_all(STDERR_FILENO, text);
+}
+
+// Writes a result, and answers whether all of it was taken.
+pub fn result(text: &[u8]) -> bool {
+    let is_written = io::write_all(STDOUT_FILENO, text);
+    if !is_written {
+        failed(b"standard output");
+    }
+    is_written
+}
+
+pub fn usage(fd: i32) {
+    io::write_all(
+        fd,
+        b"gtm pack OUT FILE..                       a message file from card files\n",
+    );
+    io::write_all(
+        fd,
+        b"gtm tag KEYS SIZE MESSAGE OUT             the tag file of a message; SIZE is 1 to 4\n",
+    );
+    io::write_all(fd, b"gtm verify KEYS MESSAGE TAGS              yes or no\n");
+    io::write_all(
+        fd,
+        b"gtm report KEYS MESSAGE TAGS              which cards were altered\n",
+    );
+    io::write_all(
+        fd,
+        b"gtm replace KEYS TAGS NUMBER OLD NEW OUT  a tag file with one card replaced\n",
+    );
+    io::write_all(
+        fd,
+        b"gtm fetch MESSAGE NUMBER                  one card's bytes\n",
+    );
+    io::write_all(
+        fd,
+        b"gtm list MESSAGE                          the cards and their lengths\n",
+    );
+    io::write_all(fd, b"gtm help                                  this text\n");
+}
+
+// Says what is wrong with the words, and how they are used.
+pub fn error(what: &[u8], word: &[u8]) {
+    err(what);
+    err(word);
+    err(b"\n");
+    usage(STDERR_FILENO);
+}
+
+// Says that the system refused something, by the name of what it was, and how the words are used.
+pub fn failed(name: &[u8]) {
+    os::fail(name);
+    usage(STDERR_FILENO);
+}
+
+// Says a refusal: its line and what its number means.
+pub fn refused(r: Refusal) {
+    let mut line = [0u8; 56];
+    let n = printing::put_refused(&mut line, 0, r);
+    err(&line[0..n]);
+    if r.number < 6 {
+        of_message(r.number);
+    } else {
+        of_tags(r.number);
+    }
+}
+
+fn of_message(number: u8) {
+    match number {
+        1 => err(b"the key file does not have 48 bytes\n"),
+        2 => err(b"the size is not 1, 2, 3 or 4\n"),
+        3 => err(
+            b"the message has under 7 or over 65,536 bytes (a place: with that card file), or does not begin as a message file of version 1\n",
+        ),
+        4 => err(b"the message has no card, or more cards than the size allows\n"),
+        _ => err(
+            b"a card's length is above 1,024, a card runs past the end, or bytes are left over: see the card at that place\n",
+        ),
+    }
+}
+
+fn of_tags(number: u8) {
+    match number {
+        6 => err(
+            b"the tag file has a wrong length, wrong letters, version or size, or a count that its size does not allow\n",
+        ),
+        7 => err(b"the output is longer than the room for it\n"),
+        8 => err(b"the message has no card of that number\n"),
+        9 => err(b"a card file has over 1,024 bytes (the place: which one)\n"),
+        20 => err(b"the tag file was altered, or was made with other keys\n"),
+        _ => err(b"the message and the tag file have different numbers of cards\n"),
+    }
+}

@@ -1,0 +1,102 @@
+// Tag and replace: the commands that write a tag file.
+use crate::input;
+use crate::output;
+use crate::say;
+use crate::words;
+use command::lines;
+use files::Refusal;
+use files::message;
+use files::tagfile;
+ghost use Prim.Native.Nat.{_≤_};
+ghost use lib.ListN.{length};
+
+// Writes the tag file that out begins with to the file that word i names and says its line, or says the refusal.
+fn finish(refused: Refusal, i: usize, out: &[u8])
+    requires { ⌜ 1336 ≤ length (now out) ⌝ }
+{
+    if refused.number != 0 {
+        say::refused(refused);
+        return;
+    }
+    let code = tagfile::code_of(out);
+    let n = lines::file_size(code);
+    if !output::write(i, &out[0..n]) {
+        return;
+    }
+    let mut line = [0u8; 80];
+    let e = printing::put_limits(&mut line, 0, code, message::number16(out, 6));
+    say::result(&line[0..e]);
+}
+
+fn tag_as(size: u64) {
+    let mut keys = [0u8; 49];
+    let k = input::read(2, &mut keys);
+    if !k.ok {
+        return;
+    }
+    let mut message = [0u8; 65537];
+    let m = input::read(4, &mut message);
+    if !m.ok {
+        return;
+    }
+    let a = k.n;
+    let b = m.n;
+    let mut out = [0u8; 1336];
+    let r = scheme::tag(&keys[0..a], size, &message[0..b], &mut out);
+    finish(r, 5, &out);
+}
+
+pub fn tag() {
+    if !words::exactly(6) {
+        return;
+    }
+    let size = words::number(3);
+    if size.ok {
+        tag_as(size.value);
+    }
+}
+
+// Reads the two card files and replaces card j.
+fn replace_cards(keys: &[u8], tags: &[u8], j: u64) {
+    let mut old = [0u8; 1025];
+    let o = input::read(5, &mut old);
+    if !o.ok {
+        return;
+    }
+    let mut new = [0u8; 1025];
+    let n = input::read(6, &mut new);
+    if !n.ok {
+        return;
+    }
+    let a = o.n;
+    let b = n.n;
+    let mut out = [0u8; 1336];
+    let r = scheme::replace(keys, tags, j, &old[0..a], &new[0..b], &mut out);
+    finish(r, 7, &out);
+}
+
+fn replace_as(j: u64) {
+    let mut keys = [0u8; 49];
+    let k = input::read(2, &mut keys);
+    if !k.ok {
+        return;
+    }
+    let mut tags = [0u8; 1337];
+    let t = input::read(3, &mut tags);
+    if !t.ok {
+        return;
+    }
+    let a = k.n;
+    let b = t.n;
+    replace_cards(&keys[0..a], &tags[0..b], j);
+}
+
+pub fn replace() {
+    if !words::exactly(8) {
+        return;
+    }
+    let number = words::number(4);
+    if number.ok {
+        replace_as(number.value);
+    }
+}
