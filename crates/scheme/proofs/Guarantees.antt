@@ -60,7 +60,7 @@ report-passes keys s c room old b h p q fit bytes r =
 
 -- ---- Tag and Verify
 
-item-bytes : (s : List ℕ) → Bytes s → (j : ℕ) → Bytes (item s j)
+pub item-bytes : (s : List ℕ) → Bytes s → (j : ℕ) → Bytes (item s j)
 unfolding item
 item-bytes s b j = take-bytes (size s j) (drop (start s j) s) (drop-bytes (start s j) s b)
 
