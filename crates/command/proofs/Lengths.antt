@@ -1,16 +1,12 @@
 -- How long the lines and the name are at most: a number below 2^64 has at most 20 digits.
-use mathlib.Core.Path.{_≡_, sym, _∙_, ap}
-use mathlib.Core.Bool.{Bool}
+use mathlib.Core.Path.{_≡_, ap}
 use mathlib.Core.List.{List}
 use Prim.Native.Nat.{ℕ, _+_, _^_, _≤_, _<_}
 use native.Mathlib.Omega.{arith}
 use lib.ListN.{length, length-append}
-use borrow.Author.Tests.{le-leb, lt-leb}
-use Rattle.cipher.specs.Block.{if_then_else_}
-use Rattle.files.specs.Message.{number16}
 use Rattle.printing.specs.Text.{ascii, labelled}
 use Rattle.printing.proofs.Lengths.{decimal-64}
-use Rattle.command.specs.Said.{countLine, itemLine, temporaryName, sizeAt}
+use Rattle.command.specs.Said.{countLine, itemLine, temporaryName}
 
 -- at the front
 pub room-front : (room long most : ℕ) → long ≤ most → most ≤ room → 0 + long ≤ room
@@ -35,13 +31,3 @@ temporary-short name process h = simp length-append (omega (arith, decimal-64 pr
 pub temporary-differs : (name : List ℕ) (process : ℕ) → temporaryName name process ≡ name → ⊥
 unfolding temporaryName labelled ascii
 temporary-differs name process e = omega (arith, simp length-append at (ap length e))
-
--- ---- the length at a place of a message
-
-pub size-none : (s : List ℕ) (at : ℕ) → length s < at + 2 → 0 ≡ sizeAt s at
-unfolding sizeAt
-size-none s at h = sym (ap (λ (t : Bool). if t then number16 s at else 0) (lt-leb (at + 2) (length s) h))
-
-pub size-some : (s : List ℕ) (at r : ℕ) → at + 2 ≤ length s → r ≡ number16 s at → r ≡ sizeAt s at
-unfolding sizeAt
-size-some s at r h e = e ∙ sym (ap (λ (t : Bool). if t then number16 s at else 0) (le-leb (at + 2) (length s) h))

@@ -1,10 +1,6 @@
 -- The lines that the command prints beside the report program's, and the name of a file that is not whole yet. Assumes nothing.
 use mathlib.Core.List.{List, _++_}
-use Prim.Native.Nat.{ℕ, _+_}
-use lib.Dec.{leb}
-use lib.ListN.{length}
-use Rattle.cipher.specs.Block.{if_then_else_}
-use Rattle.files.specs.Message.{number16}
+use Prim.Native.Nat.{ℕ}
 use Rattle.printing.specs.Text.{ascii, labelled}
 
 -- how many cards a message has
@@ -18,7 +14,3 @@ itemLine j long = labelled "card " j ++ labelled " bytes " long ++ ascii "\n"
 -- the name under which a file is written until it is whole: a dot, the process number and `.new` behind its own
 unfoldable pub temporaryName : List ℕ → ℕ → List ℕ
 temporaryName name process = name ++ labelled "." process ++ ascii ".new"
-
--- the 2-byte length that stands at a place of a message, 0 where none does
-unfoldable pub sizeAt : List ℕ → ℕ → ℕ
-sizeAt s at = if leb (at + 2) (length s) then number16 s at else 0

@@ -1,12 +1,11 @@
 // The lines that the command prints beside the report program's, put like those of the crate printing, and the name of a file that is not
 // whole yet.
-use files::message;
 ghost use mathlib.Core.Path.{_≡_};
-ghost use Prim.Native.Nat.{_+_, _*_, _≤_, _<_};
+ghost use Prim.Native.Nat.{_+_, _≤_};
 ghost use lib.ListN.{length};
 ghost use Rattle.files.specs.TagFile.{fileSize};
 ghost use Rattle.printing.specs.Text.{over};
-ghost use Rattle.command.specs.Said.{countLine, itemLine, temporaryName, sizeAt};
+ghost use Rattle.command.specs.Said.{countLine, itemLine, temporaryName};
 
 // Puts the line of how many cards there are.
 pub fn put_count_line(out: &mut [u8], at: usize, n: usize) -> usize
@@ -41,20 +40,6 @@ pub fn put_temporary(out: &mut [u8], name: &[u8], process: u64) -> usize
     let next = printing::put(out, 0, name);
     let next = printing::put_labelled(out, next, b".", process);
     printing::put(out, next, b".new")
-}
-
-// The length of a card that stands at a place of a message, 0 past its end.
-pub fn size_at(s: &[u8], at: usize) -> usize
-    ensures size { λ r. ⌜ r ≡ sizeAt (now (s .entry)) at ⌝ }
-    ensures short { λ r. ⌜ r < 65536 ⌝ }
-{
-    if s.len() < 2 {
-        return 0;
-    }
-    if s.len() - 2 < at {
-        return 0;
-    }
-    message::number16(s, at)
 }
 
 // The length of a tag file.

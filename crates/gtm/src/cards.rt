@@ -104,15 +104,13 @@ fn say_card(j: usize, long: usize) -> bool {
 fn list_cards(s: &[u8], count: usize)
     requires { ⌜ count < 65536 ⌝ }
 {
-    let mut at = 7;
     let mut j = 0;
     while j < count {
-        let long = lines::size_at(s, at);
-        if !say_card(j + 1, long) {
+        j += 1;
+        let card = message::fetch(s, j as u64);
+        if !say_card(j, card.len()) {
             return;
         }
-        at = at + 2 + long;
-        j += 1;
     }
 }
 
