@@ -5,7 +5,7 @@ use mathlib.Core.List.{List, [], _∷_, _++_, map, append-nil}
 use Prim.Native.Nat.{ℕ, zero, suc, _+_, _-_, _≤_, _<_, zero-le}
 use native.Mathlib.Nat.{not-suc-le-zero, le-of-suc-le-suc}
 use native.Mathlib.Numerals.{add-one}
-use lib.ListN.{length, getD, set, take, drop, drop-of-length-le, length-append, length-take, length-drop}
+use lib.ListN.{length, getD, set, take, drop, drop-of-length-le, length-drop}
 use borrow.Rule.Slice.PartMut.{putMid}
 use lib.Seq.{take-length, drop-nil, take-all, drop-drop, drop-length}
 use native.Mathlib.Omega.{arith}
@@ -40,9 +40,6 @@ part-all (suc i) [] [] h k = refl
 part-all (suc i) [] (x ∷ l) h k = drop-of-length-le l (le-of-suc-le-suc k)
 part-all (suc i) (y ∷ t) [] h k = ap (λ (z : List ℕ). y ∷ z) (ap (λ (z : List ℕ). take i t ++ z) (sym (drop-nil i)) ∙ part-all i t [] (le-of-suc-le-suc h) zero-le)
 part-all (suc i) (y ∷ t) (x ∷ l) h k = ap (λ (z : List ℕ). y ∷ z) (part-all i t l (le-of-suc-le-suc h) (le-of-suc-le-suc k))
-
-pub part-length : (i : ℕ) (t l : List ℕ) → length t ≡ length l → length (part i t l) ≡ length l
-part-length i t l e = simp (length-append, length-take, length-drop) (omega arith)
 
 pub part-turn : (i : ℕ) (t l s : List ℕ) (v : ℕ) → s ≡ part i t l → i < length l → i < length t → v ≡ getD t i 0 → set s i v ≡ part (i + 1) t l
 part-turn i t l s v p h k e = ap (λ (z : List ℕ). set z i v) p ∙ part-more i t l v h k e

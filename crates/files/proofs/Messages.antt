@@ -11,7 +11,7 @@ use lib.Dec.{eqb, leb}
 use lib.ListN.{length, getD, take, drop}
 use lib.Seq.{drop-cons}
 use denote.Ref.{RefT, now, ptr}
-use borrow.Author.Tests.{leb-true, le-leb, lt-leb, eqb-true, eq-eqb, ne-eqb}
+use borrow.Author.Tests.{leb-true, le-leb, lt-leb, eq-eqb, ne-eqb}
 use Rattle.cipher.specs.Block.{same}
 use Rattle.cipher.specs.Number.{number}
 use Rattle.cipher.proofs.Xor.{same-true, same-eq}
@@ -180,13 +180,6 @@ module _ (s : List ℕ) where
   pub item-fits : (k : ℕ) → refuse5 s .number ≡ 0 → k < count s → Fits s (behind s k)
   unfolding refuse5
   item-fits k h l = items-fit (count s) k (rest-passes (refuseItems s (count s)) _ h .0) l
-
-  -- and they end where the file ends
-  pub items-end : refuse5 s .number ≡ 0 → behind s (count s) ≡ length s
-  unfolding refuse5
-  items-end h =
-      let r = rest-passes (refuseItems s (count s)) _ h .1 in
-      eqb-true _ _ (unless-passes _ 5 (count s + 1) (omega arith) (rest-passes (unless (eqb (behind s (count s)) (length s)) 5 (count s + 1)) [] r .0))
 
 -- ---- what passes is none
 

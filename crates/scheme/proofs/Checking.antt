@@ -5,7 +5,7 @@ use mathlib.Core.List.{List, [], _∷_, _++_}
 use Prim.Native.Nat.{ℕ, _≤_}
 use native.Mathlib.Omega.{arith}
 use lib.Dec.{eqb, leb}
-use lib.ListN.{length, take}
+use lib.ListN.{length}
 use borrow.Author.Tests.{eqb-true, eqb-false, leb-true}
 use Rattle.cipher.specs.Block.{if_then_else_, same}
 use Rattle.cipher.specs.Cmac.{cmac}
@@ -15,9 +15,9 @@ use Rattle.sizes.specs.Sizes.{known, familyOf}
 use Rattle.files.specs.declared.Refusal.{Refusal}
 use Rattle.files.specs.Refusals.{none, passes, first}
 use Rattle.files.specs.Message.{count, refuse3, refuse5, refuse8}
-use Rattle.files.specs.TagFile.{tagPrefix, fileSize, codeOf, countOf, countFits, bodyOf, macOf, refuse6, refuse20}
+use Rattle.files.specs.TagFile.{fileSize, codeOf, countOf, countFits, bodyOf, macOf, refuse6, refuse20}
 use Rattle.files.specs.Handed.{refuse1, refuse2, refuse4, refuse7, refuse9}
-use Rattle.files.proofs.Passing.{first-here, rest-passes, unless-passes, Plain, plain-unless, plain-first, number-of, and-left, and-right}
+use Rattle.files.proofs.Passing.{first-here, rest-passes, unless-passes, Plain, plain-unless, number-of, and-left, and-right}
 use Rattle.files.proofs.Messages.{plain3, plain5, headed}
 use Rattle.files.proofs.Accepted.{Formed, formed}
 use Rattle.tagging.specs.Tagging.{keysIn}
@@ -46,33 +46,9 @@ flat (r ∷ l) rest = go (passes r) refl (flat l rest)
 
 -- ---- what passes is none
 
-pub plain1 : (n : ℕ) → Plain (refuse1 n)
-unfolding refuse1
-plain1 n = plain-unless (eqb n 48) 1 0 (omega arith)
-
-pub plain2 : (c : ℕ) → Plain (refuse2 c)
-unfolding refuse2
-plain2 c = plain-unless (known c) 2 0 (omega arith)
-
-pub plain4 : (c n : ℕ) → Plain (refuse4 c n)
-unfolding refuse4
-plain4 c n = plain-unless (inside (familyOf c .items) n) 4 0 (omega arith)
-
-pub plain6 : (f : List ℕ) → Plain (refuse6 f)
-unfolding refuse6
-plain6 f = plain-unless ((leb 24 (length f) && same (take 5 f) tagPrefix) && (countFits (codeOf f) (countOf f) && eqb (length f) (fileSize (codeOf f)))) 6 0 (omega arith)
-
 pub plain7 : (size room : ℕ) → Plain (refuse7 size room)
 unfolding refuse7
 plain7 size room = plain-unless (leb size room) 7 0 (omega arith)
-
-pub plain8 : (n j : ℕ) → Plain (refuse8 n j)
-unfolding refuse8
-plain8 n j = plain-unless (leb 1 j && leb j n) 8 0 (omega arith)
-
-pub plain9 : (long place : ℕ) → Plain (refuse9 long place)
-unfolding refuse9
-plain9 long place = plain-unless (leb long 1024) 9 place (omega arith)
 
 pub plain20 : (key f : List ℕ) → Plain (refuse20 key f)
 unfolding refuse20
@@ -86,18 +62,6 @@ plain21 s f = plain-unless (eqb (count s) (countOf f)) 21 0 (omega arith)
 
 pub pair : (a b : Refusal) (rest : List Refusal) → first (a ∷ b ∷ rest) ≡ first (first (a ∷ b ∷ []) ∷ rest)
 pair a b rest = sym (flat (a ∷ b ∷ []) rest)
-
-pub plain35 : (s : List ℕ) → Plain (first (refuse3 s ∷ refuse5 s ∷ []))
-plain35 s = plain-first (refuse3 s ∷ refuse5 s ∷ []) (plain3 s, (plain5 s, tt))
-
-pub plain620 : (key f : List ℕ) → Plain (first (refuse6 f ∷ refuse20 key f ∷ []))
-plain620 key f = plain-first (refuse6 f ∷ refuse20 key f ∷ []) (plain6 f, (plain20 key f, tt))
-
-pub plain-verify : (keys s f : List ℕ) → Plain (verifyRefusal keys s f)
-unfolding verifyRefusal
-plain-verify keys s f =
-    plain-first (refuse1 (length keys) ∷ refuse3 s ∷ refuse5 s ∷ refuse6 f ∷ refuse20 (keysIn keys .seal) f ∷ refuse21 s f ∷ [])
-    (plain1 (length keys), (plain3 s, (plain5 s, (plain6 f, (plain20 (keysIn keys .seal) f, (plain21 s f, tt))))))
 
 -- ---- what passes is known
 

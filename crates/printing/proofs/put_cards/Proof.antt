@@ -74,7 +74,6 @@ returns c =
     let marks = now (d .args .marks) in
     let j = l .loop .j in
     let few = cards-short marks (d .args .n) (search needs) in
-    let fits = room-for (d .args .at) (length (now (d .args .out))) (length (cardLines marks (d .args .n))) (26 * d .args .n) few (d .pre .1) in
     let e : j ≡ d .args .n = omega arith in
     put-short _ _ (26 * d .args .n) _ _ _ few (put-as _ _ _ _ _ _ (ap (cardLines marks) e) (l .loop .inv .1))
 

@@ -49,7 +49,6 @@ same-length c = search needs
 returns : tie.Need-returns
 unfolding answerWord ascii
 returns c =
-    let d = c .before .before .before .before .before .before .before .before in
     put-as _ _ _ _ _ _ (sym (ap answerWord (c .before .before .before .before .before .enum-told .given .1))) (c .before .before .put .ensures)
 
 same-length-2 : tie.Need-same-length-2
@@ -58,7 +57,6 @@ same-length-2 c = search needs
 returns-2 : tie.Need-returns-2
 unfolding answerWord ascii
 returns-2 c =
-    let d = c .before .before .before .before .before .before .before .before in
     put-as _ _ _ _ _ _ (sym (ap answerWord (c .before .before .before .before .before .enum-told2 .given .1))) (c .before .before .put2 .ensures)
 
 same-length-3 : tie.Need-same-length-3
@@ -67,7 +65,6 @@ same-length-3 c = search needs
 returns-3 : tie.Need-returns-3
 unfolding answerWord ascii
 returns-3 c =
-    let d = c .before .before .before .before .before .before .before .before in
     put-as _ _ _ _ _ _ (sym (ap answerWord (c .before .before .before .before .before .enum-told3 .given .1))) (c .before .before .put3 .ensures)
 
 pub put-word-spec : {M : Type 1} → statement M
