@@ -48,9 +48,10 @@ fn clear_row(code: u64, n: usize, row: usize, marks: &mut [u8])
     ensures { λ _. ⌜ Cleared (familyOf code .on row) n (now (marks .entry)) (now (marks .exit)) ⌝ }
 {
     let held = sizes::item_count(code, row);
+    let upto = sizes::items_upto(code, row);
     let mut k = 0;
     while k < held {
-        let j = sizes::item_at(code, row, k);
+        let j = sizes::item_by(code, row, upto, k);
         clear_item(marks, n, j);
         k += 1;
     }
@@ -116,9 +117,10 @@ fn holds_named(code: u64, n: usize, row: usize, marks: &[u8]) -> bool
     ensures { λ r. ⌜ r ≡ holdsMarked (familyOf code) (now (marks .entry)) n row ⌝ }
 {
     let held = sizes::item_count(code, row);
+    let upto = sizes::items_upto(code, row);
     let mut k = 0;
     while k < held {
-        if is_named(marks, n, sizes::item_at(code, row, k)) {
+        if is_named(marks, n, sizes::item_by(code, row, upto, k)) {
             return true;
         }
         k += 1;

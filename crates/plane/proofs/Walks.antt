@@ -6,7 +6,7 @@ use Prim.Native.Nat.{ℕ, zero, suc, _+_, _-_, _≤_, _<_, _%_}
 use native.Mathlib.Nat.{add-mod-right, mod-eq-of-lt}
 use native.Mathlib.Omega.{arith}
 use lib.Dec.{eqb, ltb, leb}
-use lib.ListN.{length, getD, length-map}
+use lib.ListN.{length, getD, length-map, List·getD-eq-default}
 use borrow.Author.Tests.{ltb-true, ltb-false, leb-true, leb-false, lt-ltb, le-ltb, le-leb, lt-leb, eqb-true, eqb-false}
 use Rattle.cipher.specs.Block.{if_then_else_}
 use Rattle.cipher.proofs.Loop.{map-at}
@@ -18,9 +18,9 @@ use Rattle.incidence.proofs.Listing.{listed-length, listed-rank}
 use Rattle.plane.specs.Table.{itemsOf as sizeOf, tagsOf, limitOf, differences, pattern}
 use Rattle.plane.specs.Plane.{member, on, made, tagged, plane}
 use Rattle.plane.proofs.Ranks.{above, rank, above-at, under-at, member-at, not-member, count-rank, rank-at, rank-before, rank-mono, rank-most, rank-least, rank-length, count-add, count-down}
-use Rattle.plane.proofs.Lookup.{differences-rise, items-most, some-low, some-high}
+use Rattle.plane.proofs.Lookup.{differences-rise, differences-few, items-most, some-low, some-high}
 use Rattle.plane.proofs.Rules.{rules}
-use Rattle.plane.proofs.Cyclic.{Rules, within-at, on-inside, hit, count-hits, count-turn, column-weight, row-weight}
+use Rattle.plane.proofs.Cyclic.{Rules, within-at, on-inside, hit, count-hits, count-all, count-turn, column-weight, row-weight}
 
 -- ---- membership by rank
 
@@ -79,15 +79,14 @@ module _ (m t d : ℕ) (D P : List ℕ) (R : Rules m t d D P) where
       ∙ count-down H (j + m - i) (i - 1) in
       omega (arith, g, count-add H (j + m - i) (i - 1), ap (count H) f, count-turn m t d D P R (j - 1), count-hits m t d D P R (j - 1) (omega arith))
 
-  -- the items before item j that row i holds
-  before-item : (i j : ℕ) → 1 ≤ i → i ≤ m → 1 ≤ j → j ≤ m
-      → count (λ r. on m D i r) (j - 1) + rank D (m - i) ≡ count H (m - i + (j - 1))
+  -- the items 1 to n that row i holds
+  first-items : (i n : ℕ) → 1 ≤ i → i ≤ m → n ≤ m → count (on m D i) n + rank D (m - i) ≡ count H (m - i + n)
   unfolding H
-  before-item i j li ui lj uj =
-      let g : count (λ r. on m D i r) (j - 1) ≡ count (λ k. H (m - i + k)) (j - 1) =
-      count-ext (λ r. on m D i r) (λ k. H (m - i + k)) (j - 1)
+  first-items i n li ui u =
+      let g : count (on m D i) n ≡ count (λ k. H (m - i + k)) n =
+      count-ext (on m D i) (λ k. H (m - i + k)) n
       (λ r a b. on-inside m D i r li ui a (omega arith) ∙ ap H (let e : r + m - i ≡ m - i + r = omega arith in e)) in
-      omega (arith, g, count-add H (m - i) (j - 1), count-hits m t d D P R (m - i) (omega arith))
+      omega (arith, g, count-add H (m - i) n, count-hits m t d D P R (m - i) (omega arith))
 
   -- row i holds item j where j − i leads to a difference
   on-difference : (i j k : ℕ) → 1 ≤ i → i ≤ m → 1 ≤ j → j ≤ m → k < length D
@@ -101,9 +100,14 @@ module _ (m t d : ℕ) (D P : List ℕ) (R : Rules m t d D P) where
     pub rows-length : length (listed (λ i. on m D i j) m) ≡ length D
     rows-length = listed-length (λ i. on m D i j) m ∙ column-weight m t d D P R j lj uj ∙ sym (R .size)
 
-    row-place : (i k : ℕ) → 1 ≤ i → i ≤ m → on m D i j ≡ true → count (λ r. on m D r j) (i - 1) ≡ k
+    -- those below row j are as many as the differences below j
+    pub rows-under : count (λ i. on m D i j) (j - 1) ≡ rank D (j - 1)
+    unfolding H
+    rows-under = let f : j + m - j ≡ m = omega arith in omega (arith, before-row j j lj uj lj uj, ap (count H) f, count-all m t d D P R)
+
+    row-stands : (i k : ℕ) → 1 ≤ i → i ≤ m → on m D i j ≡ true → count (λ r. on m D r j) (i - 1) ≡ k
         → getD (listed (λ r. on m D r j) m) k 0 ≡ i
-    row-place i k l u o e =
+    row-stands i k l u o e =
         subst (λ (x : ℕ). getD (listed (λ r. on m D r j) m) x 0 ≡ i) e (listed-rank (λ r. on m D r j) m i l u o)
 
     -- a difference e below j leads to row j − e
@@ -114,7 +118,7 @@ module _ (m t d : ℕ) (D P : List ℕ) (R : Rules m t d D P) where
         let lo : 0 < getD D n 0 = above-at 0 D (R .rises) n l in
         let f : j + m - (j - e) ≡ m + e = omega arith in
         let g : m + e ≡ e + m = omega arith in
-        row-place (j - e) k (omega arith) (omega arith)
+        row-stands (j - e) k (omega arith) (omega arith)
         (on-difference (j - e) j n (omega arith) (omega arith) lj uj l (ap (λ (x : ℕ). x % m) (f ∙ g) ∙ add-mod-right e m ∙ ap (λ (x : ℕ). x % m) q ∙ small n l))
         (omega (
           arith,
@@ -133,7 +137,7 @@ module _ (m t d : ℕ) (D P : List ℕ) (R : Rules m t d D P) where
     row-by-behind k n e l q u r =
         let hi : getD D n 0 < m = under-at m D (R .below) n l in
         let f : j + m - (j + m - e) ≡ e = omega arith in
-        row-place (j + m - e) k (omega arith) (omega arith)
+        row-stands (j + m - e) k (omega arith) (omega arith)
         (on-difference (j + m - e) j n (omega arith) (omega arith) lj uj l (ap (λ (x : ℕ). x % m) (f ∙ q) ∙ small n l))
         (omega (
           arith,
@@ -148,8 +152,13 @@ module _ (m t d : ℕ) (D P : List ℕ) (R : Rules m t d D P) where
     pub items-length : length (listed (on m D i) m) ≡ length D
     items-length = listed-length (on m D i) m ∙ row-weight m t d D P R i li ui ∙ sym (R .size)
 
-    item-place : (j k : ℕ) → 1 ≤ j → j ≤ m → on m D i j ≡ true → count (on m D i) (j - 1) ≡ k → getD (listed (on m D i) m) k 0 ≡ j
-    item-place j k l u o e = subst (λ (x : ℕ). getD (listed (on m D i) m) x 0 ≡ j) e (listed-rank (on m D i) m j l u o)
+    -- those up to item i are as many as the differences above m − i
+    pub items-under : count (on m D i) i + rank D (m - i) ≡ length D
+    unfolding H
+    items-under = let f : m - i + i ≡ m = omega arith in omega (arith, first-items i i li ui ui, ap (count H) f, count-all m t d D P R, R .size)
+
+    item-stands : (j k : ℕ) → 1 ≤ j → j ≤ m → on m D i j ≡ true → count (on m D i) (j - 1) ≡ k → getD (listed (on m D i) m) k 0 ≡ j
+    item-stands j k l u o e = subst (λ (x : ℕ). getD (listed (on m D i) m) x 0 ≡ j) e (listed-rank (on m D i) m j l u o)
 
     -- a difference e above m − i goes round to item i + e − m
     item-by-round : (k n e : ℕ) → n < length D → e ≡ getD D n 0 → m - i < e → n ≡ rank D (m - i) + k
@@ -159,11 +168,11 @@ module _ (m t d : ℕ) (D P : List ℕ) (R : Rules m t d D P) where
         let hi : getD D n 0 < m = under-at m D (R .below) n l in
         let f : i + e - m + m - i ≡ e = omega arith in
         let g : m - i + (i + e - m - 1) ≡ e - 1 = omega arith in
-        item-place (i + e - m) k (omega arith) (omega arith)
+        item-stands (i + e - m) k (omega arith) (omega arith)
         (on-difference i (i + e - m) n li ui (omega arith) (omega arith) l (ap (λ (x : ℕ). x % m) (f ∙ q) ∙ small n l))
         (omega (
           arith,
-          before-item i (i + e - m) li ui (omega arith) (omega arith),
+          first-items i (i + e - m - 1) li ui (omega arith),
           ap (count H) g,
           count-hits m t d D P R (e - 1) (omega arith),
           ap (λ (x : ℕ). rank D (x - 1)) q,
@@ -179,11 +188,11 @@ module _ (m t d : ℕ) (D P : List ℕ) (R : Rules m t d D P) where
         let hi : getD D n 0 < m = under-at m D (R .below) n l in
         let f : i + e + m - i ≡ e + m = omega arith in
         let g : m - i + (i + e - 1) ≡ m + (e - 1) = omega arith in
-        item-place (i + e) k (omega arith) (omega arith)
+        item-stands (i + e) k (omega arith) (omega arith)
         (on-difference i (i + e) n li ui (omega arith) (omega arith) l (ap (λ (x : ℕ). x % m) f ∙ add-mod-right e m ∙ ap (λ (x : ℕ). x % m) q ∙ small n l))
         (omega (
           arith,
-          before-item i (i + e) li ui (omega arith) (omega arith),
+          first-items i (i + e - 1) li ui (omega arith),
           ap (count H) g,
           count-turn m t d D P R (e - 1),
           count-hits m t d D P R (e - 1) (omega arith),
@@ -205,8 +214,11 @@ on-no-item m D i j e = rw e (go (inside m i))
     go true = refl
     go false = refl
 
+none-pass : (p : ℕ → Bool) (n : ℕ) → ((i : ℕ) → p i ≡ false) → count p n ≡ 0
+none-pass p n h = count-none p n (λ i l u t. not-both (p i) t (h i))
+
 listed-none : (p : ℕ → Bool) (n : ℕ) → ((i : ℕ) → p i ≡ false) → length (listed p n) ≡ 0
-listed-none p n h = listed-length p n ∙ count-none p n (λ i l u t. not-both (p i) t (h i))
+listed-none p n h = listed-length p n ∙ none-pass p n h
 
 -- ---- by s, as the code goes
 
@@ -250,6 +262,32 @@ module _ (s j : ℕ) where
   unfolding plane itemsOf
   items-out e = listed-none _ (sizeOf s) (λ i. on-no-row (sizeOf s) (differences s) j i e)
 
+  pub below-in : inside (sizeOf s) j ≡ true → count (λ i. plane s .on i j) (j - 1) ≡ rank (differences s) (j - 1)
+  unfolding plane
+  below-in e =
+      rows-under (sizeOf s) (tagsOf s) (limitOf s) (differences s) (pattern s) (inside-rules s j e) j (inside-low (sizeOf s) j e) (inside-high (sizeOf s) j e)
+
+  pub below-out : inside (sizeOf s) j ≡ false → count (λ i. plane s .on i j) (j - 1) ≡ 0
+  unfolding plane
+  below-out e = none-pass (λ i. plane s .on i j) (j - 1) (λ i. on-no-item (sizeOf s) (differences s) i j e)
+
+  pub upto-in : inside (sizeOf s) j ≡ true → count (plane s .on j) j + rank (differences s) (sizeOf s - j) ≡ length (differences s)
+  unfolding plane
+  upto-in e =
+      items-under (sizeOf s) (tagsOf s) (limitOf s) (differences s) (pattern s) (inside-rules s j e) j (inside-low (sizeOf s) j e) (inside-high (sizeOf s) j e)
+
+  pub upto-out : inside (sizeOf s) j ≡ false → count (plane s .on j) j ≡ 0
+  unfolding plane
+  upto-out e = none-pass (plane s .on j) j (λ i. on-no-row (sizeOf s) (differences s) j i e)
+
+-- below or not
+by-side : {A : Type 0} (k p : ℕ) → (k < p → A) → (p ≤ k → A) → A
+by-side {A} k p f g = go (ltb k p) refl
+  where
+    go : (b : Bool) → ltb k p ≡ b → A
+    go true e = f (ltb-true k p e)
+    go false e = g (ltb-false k p e)
+
 -- what is listed is inside
 if-listed : (s j n : ℕ) → (inside (sizeOf s) j ≡ false → n ≡ 0) → (k : ℕ) → k < n → inside (sizeOf s) j ≡ true
 if-listed s j n out k h = go (inside (sizeOf s) j) refl
@@ -258,98 +296,156 @@ if-listed s j n out k h = go (inside (sizeOf s) j) refl
     go true e = e
     go false e = absurd (omega (arith, out e))
 
--- the row at place k of item j; p is the rank of j − 1
-module _ (s j k : ℕ) (h : k < length (rowsOf (plane s) j)) where
-  row-inside : inside (sizeOf s) j ≡ true
-  row-inside = if-listed s j (length (rowsOf (plane s) j)) (rows-out s j) k h
+-- a difference, and the 0 past the last, is at most the size of a plane that has numbers inside
+difference-most : (s j : ℕ) → inside (sizeOf s) j ≡ true → (x e : ℕ) → e ≡ getD (differences s) x 0 → e ≤ sizeOf s
+difference-most s j i x e r = go (ltb x (length (differences s))) refl
+  where
+    go : (b : Bool) → ltb x (length (differences s)) ≡ b → e ≤ sizeOf s
+    go true t = omega (arith, under-at (sizeOf s) (differences s) (inside-rules s j i .below) x (ltb-true x (length (differences s)) t))
+    go false t = omega (arith, List·getD-eq-default (differences s) 0 (ltb-false x (length (differences s)) t))
 
-  pub row-item-low : 1 ≤ j
+-- where x leads, counting from 1 to m and on again from 1
+abbrev Leads : ℕ → ℕ → ℕ → Type 0
+Leads m x r = (m < x → r ≡ x - m) × (x ≤ m → r ≡ x)
+
+-- the row at place k of item j. p stands for how many of the item's n rows are below j, m for how many rows there are, and a for the
+-- difference's place, from 1: the first p of the differences from the last, and then the others from the last
+module _ (s j k n m : ℕ) (h : k < n) (c : n ≡ length (rowsOf (plane s) j)) (o : m ≡ sizeOf s) where
+  row-inside : inside (sizeOf s) j ≡ true
+  row-inside = if-listed s j (length (rowsOf (plane s) j)) (rows-out s j) k (omega arith)
+
+  row-item-low : 1 ≤ j
   row-item-low = inside-low (sizeOf s) j row-inside
 
-  pub row-item-high : j ≤ sizeOf s
-  row-item-high = inside-high (sizeOf s) j row-inside
+  pub row-item-high : j ≤ m
+  row-item-high = omega (arith, inside-high (sizeOf s) j row-inside)
+
+  pub row-few : n ≤ 17
+  row-few = omega (arith, rows-in s j row-inside, differences-few s)
+
+  pub row-difference : (x e : ℕ) → e ≡ getD (differences s) x 0 → e ≤ m
+  row-difference x e r = omega (arith, difference-most s j row-inside x e r)
 
   row-rules : Rules (sizeOf s) (tagsOf s) (limitOf s) (differences s) (pattern s)
   row-rules = inside-rules s j row-inside
 
-  module _ (p : ℕ) (q : p ≡ rank (differences s) (j - 1)) where
-    pub below-place : k < p → p - 1 - k < length (differences s)
-    below-place l = omega (arith, rank-length (differences s) (j - 1))
+  module _ (p a : ℕ) (f : p ≤ n) (t : Leads n (p + n - k) a) where
+    below-place : k < p → a ≡ p - k
+    below-place l = omega (arith, t .0 (omega arith))
 
-    pub below-most : (l : k < p) (e : ℕ) → e ≡ getD (differences s) (p - 1 - k) 0 → e ≤ j - 1
-    below-most l e r =
-        omega (arith, rank-most 0 (differences s) (differences-rise s) (j - 1) (p - 1 - k) (below-place l) (omega arith))
+    behind-place : p ≤ k → a ≡ p + n - k
+    behind-place l = t .1 (omega arith)
 
-    pub below-row : (l : k < p) (e : ℕ) → e ≡ getD (differences s) (p - 1 - k) 0 → getD (rowsOf (plane s) j) k 0 ≡ j - e
-    unfolding plane rowsOf
-    below-row l e r =
-        row-by-below (sizeOf s) (tagsOf s) (limitOf s) (differences s) (pattern s) row-rules j row-item-low row-item-high
-        k (p - 1 - k) e (below-place l) r (below-most l e r) (omega arith)
+    pub row-place-low : 1 ≤ a
+    row-place-low = by-side k p (λ l. omega (arith, below-place l)) (λ l. omega (arith, behind-place l))
 
-    module _ (n : ℕ) (c : n ≡ length (rowsOf (plane s) j)) where
-      pub behind-place : n - 1 - (k - p) < length (differences s)
-      behind-place = omega (arith, rows-in s j row-inside)
+    pub row-place : a - 1 < length (differences s)
+    row-place =
+        by-side k p (λ l. omega (arith, below-place l, rows-in s j row-inside)) (λ l. omega (arith, behind-place l, rows-in s j row-inside))
 
-      pub behind-least : p ≤ k → (e : ℕ) → e ≡ getD (differences s) (n - 1 - (k - p)) 0 → j - 1 < e
-      behind-least l e r =
-          omega (arith, rank-least 0 (differences s) (differences-rise s) (j - 1) (n - 1 - (k - p)) behind-place (omega arith))
+    module _ (e r : ℕ) (w : e ≡ getD (differences s) (a - 1) 0) (g : Leads m (j + m - e) r) (q : p ≡ count (λ i. plane s .on i j) (j - 1)) where
+      turn : p ≡ rank (differences s) (j - 1)
+      turn = q ∙ below-in s j row-inside
 
-      pub behind-most : (e : ℕ) → e ≡ getD (differences s) (n - 1 - (k - p)) 0 → e < sizeOf s
-      behind-most e r = omega (arith, under-at (sizeOf s) (differences s) (row-rules .below) (n - 1 - (k - p)) behind-place)
-
-      pub behind-row : p ≤ k → (e : ℕ) → e ≡ getD (differences s) (n - 1 - (k - p)) 0 → getD (rowsOf (plane s) j) k 0 ≡ j + sizeOf s - e
+      below-row : k < p → r ≡ getD (rowsOf (plane s) j) k 0
       unfolding plane rowsOf
-      behind-row l e r =
-          row-by-behind (sizeOf s) (tagsOf s) (limitOf s) (differences s) (pattern s) row-rules j row-item-low row-item-high
-          k (n - 1 - (k - p)) e behind-place r (omega (arith, behind-least l e r))
-          (omega (arith, rows-in s j row-inside, row-rules .size))
+      below-row l =
+          let u : e ≤ j - 1 =
+          omega (arith, rank-most 0 (differences s) (differences-rise s) (j - 1) (a - 1) row-place (omega (arith, turn, below-place l))) in
+          let y : r ≡ j - e = omega (arith, g .0 (omega (arith, row-item-low))) in
+          y
+          ∙ sym (row-by-below (sizeOf s) (tagsOf s) (limitOf s) (differences s) (pattern s) row-rules j row-item-low (omega (arith, row-item-high))
+          k (a - 1) e row-place w u (omega (arith, turn, below-place l)))
 
--- the item at place k of row i; p is the rank of m − i
-module _ (s i k : ℕ) (h : k < length (itemsOf (plane s) i)) where
+      behind-row : p ≤ k → r ≡ getD (rowsOf (plane s) j) k 0
+      unfolding plane rowsOf
+      behind-row l =
+          let u : j - 1 < e =
+          omega (arith, rank-least 0 (differences s) (differences-rise s) (j - 1) (a - 1) row-place (omega (arith, turn, behind-place l, row-place-low))) in
+          let y : r ≡ j + sizeOf s - e = omega (arith, g .1 (omega arith)) in
+          y
+          ∙ sym (row-by-behind (sizeOf s) (tagsOf s) (limitOf s) (differences s) (pattern s) row-rules j row-item-low (omega (arith, row-item-high))
+          k (a - 1) e row-place w (omega arith) (omega (arith, turn, behind-place l, rows-in s j row-inside, row-rules .size)))
+
+      pub row-is : r ≡ getD (rowsOf (plane s) j) k 0
+      row-is = by-side k p below-row behind-row
+
+-- the item at place k of row i, likewise: p stands for how many of the row's n items are up to i, and a for the difference's place: the last
+-- p of the differences and then the others
+module _ (s i k n m : ℕ) (h : k < n) (c : n ≡ length (itemsOf (plane s) i)) (o : m ≡ sizeOf s) where
   item-inside : inside (sizeOf s) i ≡ true
-  item-inside = if-listed s i (length (itemsOf (plane s) i)) (items-out s i) k h
+  item-inside = if-listed s i (length (itemsOf (plane s) i)) (items-out s i) k (omega arith)
 
-  pub item-row-low : 1 ≤ i
+  item-row-low : 1 ≤ i
   item-row-low = inside-low (sizeOf s) i item-inside
 
-  pub item-row-high : i ≤ sizeOf s
-  item-row-high = inside-high (sizeOf s) i item-inside
+  pub item-row-high : i ≤ m
+  item-row-high = omega (arith, inside-high (sizeOf s) i item-inside)
+
+  pub item-few : n ≤ 17
+  item-few = omega (arith, items-in s i item-inside, differences-few s)
+
+  pub item-difference : (x e : ℕ) → e ≡ getD (differences s) x 0 → e ≤ m
+  item-difference x e r = omega (arith, difference-most s i item-inside x e r)
 
   item-rules : Rules (sizeOf s) (tagsOf s) (limitOf s) (differences s) (pattern s)
   item-rules = inside-rules s i item-inside
 
-  module _ (p n : ℕ) (q : p ≡ rank (differences s) (sizeOf s - i)) (c : n ≡ length (itemsOf (plane s) i)) where
-    pub round-place : k < n - p → p + k < length (differences s)
-    round-place l = omega (arith, items-in s i item-inside)
+  module _ (p a : ℕ) (f : p ≤ n) (t : Leads n (n - p + k + 1) a) where
+    round-place : k < p → a ≡ n - p + k + 1
+    round-place l = t .1 (omega arith)
 
-    pub round-least : (l : k < n - p) (e : ℕ) → e ≡ getD (differences s) (p + k) 0 → sizeOf s - i < e
-    round-least l e r =
-        omega (arith, rank-least 0 (differences s) (differences-rise s) (sizeOf s - i) (p + k) (round-place l) (omega arith))
+    ahead-place : p ≤ k → a ≡ k - p + 1
+    ahead-place l = omega (arith, t .0 (omega arith))
 
-    pub round-most : (l : k < n - p) (e : ℕ) → e ≡ getD (differences s) (p + k) 0 → e < sizeOf s
-    round-most l e r = omega (arith, under-at (sizeOf s) (differences s) (item-rules .below) (p + k) (round-place l))
+    pub item-place-low : 1 ≤ a
+    item-place-low = by-side k p (λ l. omega (arith, round-place l)) (λ l. omega (arith, ahead-place l))
 
-    pub round-item : (l : k < n - p) (e : ℕ) → e ≡ getD (differences s) (p + k) 0 → getD (itemsOf (plane s) i) k 0 ≡ i + e - sizeOf s
-    unfolding plane itemsOf
-    round-item l e r =
-        item-by-round (sizeOf s) (tagsOf s) (limitOf s) (differences s) (pattern s) item-rules i item-row-low item-row-high
-        k (p + k) e (round-place l) r (round-least l e r) (omega arith)
+    pub item-place : a - 1 < length (differences s)
+    item-place =
+        by-side k p (λ l. omega (arith, round-place l, items-in s i item-inside)) (λ l. omega (arith, ahead-place l, items-in s i item-inside))
 
-    pub rank-within : p ≤ n
-    rank-within = omega (arith, items-in s i item-inside, rank-length (differences s) (sizeOf s - i))
+    module _ (e r : ℕ) (w : e ≡ getD (differences s) (a - 1) 0) (g : Leads m (i + e) r) (q : p ≡ count (plane s .on i) i) where
+      turned : p + rank (differences s) (sizeOf s - i) ≡ length (differences s)
+      turned = omega (arith, upto-in s i item-inside)
 
-    pub ahead-place : n - p ≤ k → k - (n - p) < length (differences s)
-    ahead-place l = omega (arith, items-in s i item-inside, rank-within)
+      round-item : k < p → r ≡ getD (itemsOf (plane s) i) k 0
+      unfolding plane itemsOf
+      round-item l =
+          let u : sizeOf s - i < e =
+          omega (arith, rank-least 0 (differences s) (differences-rise s) (sizeOf s - i) (a - 1) item-place (omega (arith, turned, round-place l, items-in s i item-inside))) in
+          let y : r ≡ i + e - sizeOf s = omega (arith, g .0 (omega arith)) in
+          y
+          ∙ sym (item-by-round (sizeOf s) (tagsOf s) (limitOf s) (differences s) (pattern s) item-rules i item-row-low (omega (arith, item-row-high))
+          k (a - 1) e item-place w u (omega (arith, turned, round-place l, items-in s i item-inside)))
 
-    pub ahead-most : (l : n - p ≤ k) (e : ℕ) → e ≡ getD (differences s) (k - (n - p)) 0 → e ≤ sizeOf s - i
-    ahead-most l e r =
-        omega (arith, rank-most 0 (differences s) (differences-rise s) (sizeOf s - i) (k - (n - p)) (ahead-place l) (omega (arith, rank-within)))
+      ahead-item : p ≤ k → r ≡ getD (itemsOf (plane s) i) k 0
+      unfolding plane itemsOf
+      ahead-item l =
+          let u : e ≤ sizeOf s - i =
+          omega (arith, rank-most 0 (differences s) (differences-rise s) (sizeOf s - i) (a - 1) item-place (omega (arith, turned, ahead-place l, items-in s i item-inside))) in
+          let y : r ≡ i + e = g .1 (omega (arith, item-row-high)) in
+          y
+          ∙ sym (item-by-ahead (sizeOf s) (tagsOf s) (limitOf s) (differences s) (pattern s) item-rules i item-row-low (omega (arith, item-row-high))
+          k (a - 1) e item-place w u (omega (arith, turned, ahead-place l, item-rules .size)))
 
-    pub ahead-item : (l : n - p ≤ k) (e : ℕ) → e ≡ getD (differences s) (k - (n - p)) 0 → getD (itemsOf (plane s) i) k 0 ≡ i + e
-    unfolding plane itemsOf
-    ahead-item l e r =
-        item-by-ahead (sizeOf s) (tagsOf s) (limitOf s) (differences s) (pattern s) item-rules i item-row-low item-row-high
-        k (k - (n - p)) e (ahead-place l) r (ahead-most l e r) (omega (arith, rank-within, items-in s i item-inside, item-rules .size))
+      pub item-is : r ≡ getD (itemsOf (plane s) i) k 0
+      item-is = by-side k p round-item ahead-item
+
+-- how many of them there are, whatever the place
+pub below-few : (s j n : ℕ) → n ≡ length (rowsOf (plane s) j) → count (λ i. plane s .on i j) (j - 1) ≤ n
+below-few s j n c = go (inside (sizeOf s) j) refl
+  where
+    go : (b : Bool) → inside (sizeOf s) j ≡ b → count (λ i. plane s .on i j) (j - 1) ≤ n
+    go true e = omega (arith, below-in s j e, rows-in s j e, rank-length (differences s) (j - 1))
+    go false e = omega (arith, below-out s j e)
+
+pub upto-few : (s i n : ℕ) → n ≡ length (itemsOf (plane s) i) → count (plane s .on i) i ≤ n
+upto-few s i n c = go (inside (sizeOf s) i) refl
+  where
+    go : (b : Bool) → inside (sizeOf s) i ≡ b → count (plane s .on i) i ≤ n
+    go true e = omega (arith, upto-in s i e, items-in s i e)
+    go false e = omega (arith, upto-out s i e)
 
 -- ---- made rows
 

@@ -68,11 +68,24 @@ const PATTERNS_AT: [usize; 5] = [0, 0, 3, 8, 23];
 
 const PATTERN_COUNTS: [usize; 5] = [0, 3, 5, 15, 35];
 
-// The entry of a column at s; beyond its end, 0.
+// The entry of a column at s; beyond its end, 0. A constant array is copied before it is read at a place that only the call knows, and not
+// where the places are fixed.
 fn column(t: [usize; 5], s: usize) -> usize
     ensures { λ r. ⌜ r ≡ getD t s 0 ⌝ }
 {
-    if s < 5 { t[s] } else { 0 }
+    let none = t[0];
+    let first = t[1];
+    let second = t[2];
+    let third = t[3];
+    let fourth = t[4];
+    match s {
+        0 => none,
+        1 => first,
+        2 => second,
+        3 => third,
+        4 => fourth,
+        _ => 0,
+    }
 }
 
 // How many items there are (document 01: cards m), and as many rows.

@@ -2,8 +2,9 @@
 // follow the difference list from the place where it turns; no pair of row and item is tested. A number out of range gets 0 or false.
 use crate::table;
 ghost use mathlib.Core.Path.{_≡_};
+ghost use Prim.Native.Nat.{_-_, _≤_, _<_};
 ghost use lib.ListN.{length, getD};
-ghost use Rattle.incidence.specs.Count.{inside};
+ghost use Rattle.incidence.specs.Count.{count, inside};
 ghost use Rattle.incidence.specs.Family.{rowsOf, itemsOf};
 ghost use Rattle.plane.specs.Plane.{plane, member};
 ghost use Rattle.plane.specs.Table.{differences};
@@ -51,19 +52,47 @@ pub fn row_count(s: usize, j: usize) -> usize
     }
 }
 
-// The row at place k, from 0, among those that hold item j. The differences below j lead to the rows below j, the others to those behind.
-pub fn row_at(s: usize, j: usize, k: usize) -> usize
-    ensures { λ r. ⌜ r ≡ getD (rowsOf (plane s) j) k 0 ⌝ }
+// How many of the rows that hold item j are numbered below it: as many as there are differences below j.
+pub fn rows_below(s: usize, j: usize) -> usize
+    ensures { λ r. ⌜ r ≡ count (λ i. plane s .on i j) (j - 1) ⌝ }
+{
+    if inside(table::items(s), j) {
+        table::rank(s, j - 1)
+    } else {
+        0
+    }
+}
+
+// Counting from 1 to m and on again from 1: where x leads, which is at most 2 m.
+fn around(m: usize, x: usize) -> usize
+    ensures past { λ r. ⌜ (m < x → r ≡ x - m) ⌝ }
+    ensures within { λ r. ⌜ (x ≤ m → r ≡ x) ⌝ }
+{
+    if m < x { x - m } else { x }
+}
+
+// The row at place k, from 0, among those that hold item j, by how many of them are below j, which a walk over all of them finds once;
+// with another number for that, any row or 0. The differences below j lead to the rows below j, the others to those behind.
+pub fn row_by(s: usize, j: usize, below: usize, k: usize) -> usize
+    ensures { λ r. ⌜ (below ≡ count (λ i. plane s .on i j) (j - 1) → r ≡ getD (rowsOf (plane s) j) k 0) ⌝ }
 {
     let n = row_count(s, j);
     if n <= k {
         return 0;
     }
-    let p = table::rank(s, j - 1);
-    if k < p {
-        return j - table::difference(s, p - 1 - k);
+    if n < below {
+        return 0;
     }
-    j + table::items(s) - table::difference(s, n - 1 - (k - p))
+    let m = table::items(s);
+    let a = around(n, below + n - k);
+    around(m, j + m - table::difference(s, a - 1))
+}
+
+// The row at place k, from 0, among those that hold item j.
+pub fn row_at(s: usize, j: usize, k: usize) -> usize
+    ensures { λ r. ⌜ r ≡ getD (rowsOf (plane s) j) k 0 ⌝ }
+{
+    row_by(s, j, rows_below(s, j), k)
 }
 
 // How many items row i holds.
@@ -77,20 +106,40 @@ pub fn item_count(s: usize, i: usize) -> usize
     }
 }
 
-// The item at place k, from 0, among those that row i holds. The differences above m − i go round to the first items.
-pub fn item_at(s: usize, i: usize, k: usize) -> usize
-    ensures { λ r. ⌜ r ≡ getD (itemsOf (plane s) i) k 0 ⌝ }
+// How many of the items that row i holds are numbered up to i: as many as there are differences above m − i.
+pub fn items_upto(s: usize, i: usize) -> usize
+    ensures { λ r. ⌜ r ≡ count (plane s .on i) i ⌝ }
+{
+    let m = table::items(s);
+    if inside(m, i) {
+        table::difference_count(s) - table::rank(s, m - i)
+    } else {
+        0
+    }
+}
+
+// The item at place k, from 0, among those that row i holds, by how many of them are up to i, likewise. The differences above m − i go
+// round to the first items.
+pub fn item_by(s: usize, i: usize, upto: usize, k: usize) -> usize
+    ensures { λ r. ⌜ (upto ≡ count (plane s .on i) i → r ≡ getD (itemsOf (plane s) i) k 0) ⌝ }
 {
     let n = item_count(s, i);
     if n <= k {
         return 0;
     }
-    let m = table::items(s);
-    let p = table::rank(s, m - i);
-    if k < n - p {
-        return i + table::difference(s, p + k) - m;
+    if n < upto {
+        return 0;
     }
-    i + table::difference(s, k - (n - p))
+    let m = table::items(s);
+    let a = around(n, n - upto + k + 1);
+    around(m, i + table::difference(s, a - 1))
+}
+
+// The item at place k, from 0, among those that row i holds.
+pub fn item_at(s: usize, i: usize, k: usize) -> usize
+    ensures { λ r. ⌜ r ≡ getD (itemsOf (plane s) i) k 0 ⌝ }
+{
+    item_by(s, i, items_upto(s, i), k)
 }
 
 // The tag of row i, 0 where it has none.

@@ -1,7 +1,9 @@
 // The size codes: the one place that names them. What a code's family has, as numbers and walks; the crates above call nothing else of
 // it. No call asks anything of its caller: for a code that is none, or a number out of range, each answers 0 or false.
 ghost use mathlib.Core.Path.{_≡_};
+ghost use Prim.Native.Nat.{_-_};
 ghost use lib.ListN.{length, getD};
+ghost use Rattle.incidence.specs.Count.{count};
 ghost use Rattle.incidence.specs.Family.{rowsOf, itemsOf};
 ghost use Rattle.sizes.specs.Sizes.{known, familyOf};
 
@@ -54,6 +56,20 @@ pub fn row_count(code: u64, item: usize) -> usize
     plane::walk::row_count(code as usize, item)
 }
 
+// How many of the rows that hold an item are numbered below it.
+pub fn rows_below(code: u64, item: usize) -> usize
+    ensures { λ r. ⌜ r ≡ count (λ i. familyOf code .on i item) (item - 1) ⌝ }
+{
+    plane::walk::rows_below(code as usize, item)
+}
+
+// The row at place k, from 0, of those that hold an item, by how many of them are below it, which a walk over all asks once.
+pub fn row_by(code: u64, item: usize, below: usize, k: usize) -> usize
+    ensures { λ r. ⌜ (below ≡ count (λ i. familyOf code .on i item) (item - 1) → r ≡ getD (rowsOf (familyOf code) item) k 0) ⌝ }
+{
+    plane::walk::row_by(code as usize, item, below, k)
+}
+
 // The row at place k, from 0, of those that hold an item, rising.
 pub fn row_at(code: u64, item: usize, k: usize) -> usize
     ensures { λ r. ⌜ r ≡ getD (rowsOf (familyOf code) item) k 0 ⌝ }
@@ -66,6 +82,21 @@ pub fn item_count(code: u64, row: usize) -> usize
     ensures { λ r. ⌜ r ≡ length (itemsOf (familyOf code) row) ⌝ }
 {
     plane::walk::item_count(code as usize, row)
+}
+
+// How many of the items that a row holds are numbered up to the row's number.
+pub fn items_upto(code: u64, row: usize) -> usize
+    ensures { λ r. ⌜ r ≡ count (familyOf code .on row) row ⌝ }
+{
+    plane::walk::items_upto(code as usize, row)
+}
+
+// The item at place k, from 0, of those that a row holds, by how many of them are up to its number, which a walk over all
+// asks once.
+pub fn item_by(code: u64, row: usize, upto: usize, k: usize) -> usize
+    ensures { λ r. ⌜ (upto ≡ count (familyOf code .on row) row → r ≡ getD (itemsOf (familyOf code) row) k 0) ⌝ }
+{
+    plane::walk::item_by(code as usize, row, upto, k)
 }
 
 // The item at place k, from 0, of those that a row holds, rising.

@@ -24,9 +24,10 @@ pub fn add_to_rows(code: u64, sums: &mut [u8], j: usize, value: [u8; 16])
     ensures { λ _. ⌜ Added (λ i. familyOf code .on i j) (familyOf code .rows) value (now (sums .entry)) (now (sums .exit)) ⌝ }
 {
     let n = sizes::row_count(code, j);
+    let below = sizes::rows_below(code, j);
     let mut k = 0;
     while k < n {
-        let i = sizes::row_at(code, j, k);
+        let i = sizes::row_by(code, j, below, k);
         add_to_sum(sums, i, value);
         k += 1;
     }
@@ -39,9 +40,10 @@ pub fn add_to_tags(code: u64, sums: &mut [u8], j: usize, value: [u8; 16])
     ensures { λ _. ⌜ Added (λ t. familyOf code .on (familyOf code .rowOfTag t) j) (familyOf code .tags) value (now (sums .entry)) (now (sums .exit)) ⌝ }
 {
     let n = sizes::row_count(code, j);
+    let below = sizes::rows_below(code, j);
     let mut k = 0;
     while k < n {
-        let i = sizes::row_at(code, j, k);
+        let i = sizes::row_by(code, j, below, k);
         add_to_sum(sums, sizes::tag_of_row(code, i), value);
         k += 1;
     }

@@ -10,28 +10,31 @@ use Rattle.decoding.proofs.clear_row.Statement.{statement}
 use Rattle.decoding.proofs.clear_row.Tie as tie
 
 abbrev Inv-loop : tie.InvT-loop
-Inv-loop code n row marks₀ held k₀ marks k = (k ≤ held) × Cleared (picked (itemsOf (familyOf code) row) k) n marks₀ marks
+Inv-loop code n row marks₀ held upto k₀ marks k = (k ≤ held) × Cleared (picked (itemsOf (familyOf code) row) k) n marks₀ marks
 
 abbrev μ-loop : tie.MeasureT-loop
-μ-loop code n row marks₀ held k₀ marks k = held - k
+μ-loop code n row marks₀ held upto k₀ marks k = held - k
 
 item-count-requires : tie.Need-item-count-requires Inv-loop μ-loop
 item-count-requires c κs = search needs
 
+items-upto-requires : tie.Need-items-upto-requires Inv-loop μ-loop
+items-upto-requires c κs = search needs
+
 loop-holds : tie.Need-loop-holds Inv-loop μ-loop
 loop-holds c =
-    let d = c .before .before in
+    let d = c .before .before .before in
     (omega arith, picks-none (itemsOf (familyOf (d .args .code)) (d .args .row)) _ _)
 
-item-at-requires : tie.Need-item-at-requires Inv-loop μ-loop
-item-at-requires c κs = search needs
+item-by-requires : tie.Need-item-by-requires Inv-loop μ-loop
+item-by-requires c κs = search needs
 
 clear-item-requires : tie.Need-clear-item-requires Inv-loop μ-loop
 clear-item-requires c κs =
     let r = c .before in
     let l = r .before .before in
-    let d = l .before .before .before in (
-      item-is (familyOf (d .args .code)) (d .args .row) (l .loop .k) _ (r .item-at .ensures) (omega (arith, l .before .item-count .ensures)) .low,
+    let d = l .before .before .before .before in (
+      item-is (familyOf (d .args .code)) (d .args .row) (l .loop .k) _ (r .item-by .ensures (l .before .items-upto .ensures)) (omega (arith, l .before .before .item-count .ensures)) .low,
       omega (arith, d .pre .1, l .loop .inv .1 .size),
     )
 
@@ -45,9 +48,9 @@ loop-again : tie.Need-loop-again Inv-loop μ-loop
 loop-again c =
     let r = c .before .before .before .before in
     let l = r .before .before in
-    let d = l .before .before .before in (
+    let d = l .before .before .before .before in (
       omega arith,
-      picks-next (itemsOf (familyOf (d .args .code)) (d .args .row)) (d .args .n) _ (l .loop .marks) _ (l .loop .k) (r .item-at .result) (l .loop .inv .1) (r .item-at .ensures) (c .before .before .clear-item .ensures),
+      picks-next (itemsOf (familyOf (d .args .code)) (d .args .row)) (d .args .n) _ (l .loop .marks) _ (l .loop .k) (r .item-by .result) (l .loop .inv .1) (r .item-by .ensures (l .before .items-upto .ensures)) (c .before .before .clear-item .ensures),
     )
 
 same-length : tie.Need-same-length Inv-loop μ-loop
@@ -56,8 +59,8 @@ same-length c = search needs
 returns : tie.Need-returns Inv-loop μ-loop
 returns c =
     let l = c .before in
-    let d = l .before .before .before in
-    picks-all (familyOf (d .args .code)) (d .args .row) (d .args .n) _ _ (l .loop .k) (l .loop .inv .1) (omega (arith, l .before .item-count .ensures)) (d .pre .0)
+    let d = l .before .before .before .before in
+    picks-all (familyOf (d .args .code)) (d .args .row) (d .args .n) _ _ (l .loop .k) (l .loop .inv .1) (omega (arith, l .before .before .item-count .ensures)) (d .pre .0)
 
 pub clear-row-spec : {M : Type 1} → statement M
 clear-row-spec =
@@ -66,8 +69,9 @@ clear-row-spec =
     Inv-loop
     μ-loop
     item-count-requires
+    items-upto-requires
     loop-holds
-    item-at-requires
+    item-by-requires
     clear-item-requires
     add-k
     loop-less

@@ -12,28 +12,31 @@ use Rattle.sums.proofs.add_to_rows.Statement.{statement}
 use Rattle.sums.proofs.add_to_rows.Tie as tie
 
 abbrev Inv-loop : tie.InvT-loop
-Inv-loop code sums₀ j value n k₀ sums k = Walked (λ i. familyOf code .on i j) (λ i. i) (familyOf code .rows) value sums₀ sums k
+Inv-loop code sums₀ j value n below k₀ sums k = Walked (λ i. familyOf code .on i j) (λ i. i) (familyOf code .rows) value sums₀ sums k
 
 abbrev μ-loop : tie.MeasureT-loop
-μ-loop code sums₀ j value n k₀ sums k = n - k
+μ-loop code sums₀ j value n below k₀ sums k = n - k
 
 row-count-requires : tie.Need-row-count-requires Inv-loop μ-loop
 row-count-requires c κs = search needs
 
+rows-below-requires : tie.Need-rows-below-requires Inv-loop μ-loop
+rows-below-requires c κs = search needs
+
 loop-holds : tie.Need-loop-holds Inv-loop μ-loop
 loop-holds c = walked-first _ _ _ _ _
 
-row-at-requires : tie.Need-row-at-requires Inv-loop μ-loop
-row-at-requires c κs = search needs
+row-by-requires : tie.Need-row-by-requires Inv-loop μ-loop
+row-by-requires c κs = search needs
 
 add-to-sum-requires : tie.Need-add-to-sum-requires Inv-loop μ-loop
 add-to-sum-requires c κs =
     let r = c .before in
     let l = r .before .before in
-    let d = l .before .before .before in
+    let d = l .before .before .before .before in
     let F = familyOf (d .args .code) in
-    let m : Member (λ i. F .on i (d .args .j)) (F .rows) (l .loop .k) (r .row-at .result)
-    = subst (Member (λ i. F .on i (d .args .j)) (F .rows) (l .loop .k)) (sym (r .row-at .ensures)) (rowsOf-at F (d .args .j) (l .loop .k) (omega (arith, l .before .row-count .ensures))) in
+    let m : Member (λ i. F .on i (d .args .j)) (F .rows) (l .loop .k) (r .row-by .result)
+    = subst (Member (λ i. F .on i (d .args .j)) (F .rows) (l .loop .k)) (sym (r .row-by .ensures (l .before .rows-below .ensures))) (rowsOf-at F (d .args .j) (l .loop .k) (omega (arith, l .before .before .row-count .ensures))) in
     omega (arith, m .high, l .loop .inv .size, d .pre)
 
 add-k : tie.Need-add-k Inv-loop μ-loop
@@ -46,12 +49,12 @@ loop-again : tie.Need-loop-again Inv-loop μ-loop
 loop-again c =
     let r = c .before .before .before .before in
     let l = r .before .before in
-    let d = l .before .before .before in
+    let d = l .before .before .before .before in
     let F = familyOf (d .args .code) in
-    let m : Member (λ i. F .on i (d .args .j)) (F .rows) (l .loop .k) (r .row-at .result)
-    = subst (Member (λ i. F .on i (d .args .j)) (F .rows) (l .loop .k)) (sym (r .row-at .ensures)) (rowsOf-at F (d .args .j) (l .loop .k) (omega (arith, l .before .row-count .ensures))) in
+    let m : Member (λ i. F .on i (d .args .j)) (F .rows) (l .loop .k) (r .row-by .result)
+    = subst (Member (λ i. F .on i (d .args .j)) (F .rows) (l .loop .k)) (sym (r .row-by .ensures (l .before .rows-below .ensures))) (rowsOf-at F (d .args .j) (l .loop .k) (omega (arith, l .before .before .row-count .ensures))) in
     let h : length (d .args .value) ≡ 16 = search needs in
-    walked-next (λ i. F .on i (d .args .j)) (F .rows) (F .rows) (λ i. i) (λ i. i) (each-row (F .rows)) (d .args .value) _ (l .loop .sums) (l .loop .k) (r .row-at .result) (l .loop .inv) m (d .pre) h _ _
+    walked-next (λ i. F .on i (d .args .j)) (F .rows) (F .rows) (λ i. i) (λ i. i) (each-row (F .rows)) (d .args .value) _ (l .loop .sums) (l .loop .k) (r .row-by .result) (l .loop .inv) m (d .pre) h _ _
     refl (c .before .before .add-to-sum .ensures)
 
 same-length : tie.Need-same-length Inv-loop μ-loop
@@ -60,10 +63,10 @@ same-length c = search needs
 returns : tie.Need-returns Inv-loop μ-loop
 returns c =
     let l = c .before in
-    let d = l .before .before .before in
+    let d = l .before .before .before .before in
     let F = familyOf (d .args .code) in
     walked-done (λ i. F .on i (d .args .j)) (F .rows) (F .rows) (λ i. i) (λ i. i) (each-row (F .rows)) _ _ _ (l .loop .k) (l .loop .inv)
-    (omega (arith, l .before .row-count .ensures, rows-counted F (d .args .j)))
+    (omega (arith, l .before .before .row-count .ensures, rows-counted F (d .args .j)))
 
 pub add-to-rows-spec : {M : Type 1} → statement M
 add-to-rows-spec =
@@ -72,8 +75,9 @@ add-to-rows-spec =
     Inv-loop
     μ-loop
     row-count-requires
+    rows-below-requires
     loop-holds
-    row-at-requires
+    row-by-requires
     add-to-sum-requires
     add-k
     loop-less
