@@ -3,8 +3,8 @@ use mathlib.Core.Path.{_≡_, refl}
 use mathlib.Core.List.{[], _∷_, _++_}
 use Rattle.cipher.specs.Block.{_⊕_, zeros}
 use Rattle.cipher.specs.Number.{numberOf, number, bigEndian}
-use Rattle.cipher.specs.Field.{xtimes, productBy, _•_, powerBy, power, inverse}
-use Rattle.cipher.specs.Aes.{bit, byteOf, affine, sbox}
+use Rattle.fips197.specs.Field.{xtimes, productBy, _•_, powerBy, power, inverse}
+use Rattle.fips197.specs.Aes.{bit, byteOf, affine, sbox}
 use Rattle.cipher.specs.Double.{double}
 
 -- the S-box of 53 is ed

@@ -89,32 +89,30 @@ module _ (ciph : List ℕ → List ℕ) (m x : List ℕ) (at : ℕ) (even : at %
       ap₂ (λ (y : List ℕ) (k : ℕ). ciph (y ⊕ take 16 (drop k m))) so (sym q)
       ∙ ap (chain ciph m) (sym (add-one (at / 16)) ∙ sym n)
 
-  module _ (k1 k2 : List ℕ) (inside : at ≤ length m - 1) where
-    -- the last block is whole
-    pub mac-whole : at + 16 ≡ length m → ciph (x ⊕ (take 16 (drop at m) ⊕ k1)) ≡ macBy ciph k1 k2 m
-    unfolding macBy lastBlock
-    mac-whole h =
-        let n = blockCount m - 1 in
-        let p : n ≡ (length m - 1) / 16 = before-last m in
-        let b : at / 16 ≡ n = omega arith in
-        let q : at ≡ n * 16 = omega arith in
-        let d : length (drop (n * 16) m) ≡ 16 = length-drop (n * 16) m ∙ omega arith in
-        ap₂ (λ (y z : List ℕ). ciph (y ⊕ z)) (so ∙ ap (chain ciph m) b)
-        (ap (λ (z : List ℕ). z ⊕ k1) (ap (λ (k : ℕ). take 16 (drop k m)) q ∙ take-all 16 (drop (n * 16) m) (omega arith))
-        ∙ ap (λ (t : Bool). if t then drop (n * 16) m ⊕ k1 else padded (drop (n * 16) m) ⊕ k2) (sym (eq-eqb (length (drop (n * 16) m)) 16 d)))
+  -- with the last block the chain is the MAC
+  pub mac-last : (k1 k2 : List ℕ) → at ≤ length m - 1 → length m ≤ at + 16 → ciph (x ⊕ lastBlock k1 k2 (drop at m)) ≡ macBy ciph k1 k2 m
+  unfolding macBy
+  mac-last k1 k2 inside h =
+      let n = blockCount m - 1 in
+      let p : n ≡ (length m - 1) / 16 = before-last m in
+      let b : at / 16 ≡ n = omega arith in
+      let q : at ≡ n * 16 = omega arith in
+      ap₂ (λ (y : List ℕ) (k : ℕ). ciph (y ⊕ lastBlock k1 k2 (drop k m))) (so ∙ ap (chain ciph m) b) q
 
-    -- it is not, and is padded
-    pub mac-padded : length m < at + 16 → ciph (x ⊕ (padded (drop at m) ⊕ k2)) ≡ macBy ciph k1 k2 m
-    unfolding macBy lastBlock
-    mac-padded h =
-        let n = blockCount m - 1 in
-        let p : n ≡ (length m - 1) / 16 = before-last m in
-        let b : at / 16 ≡ n = omega arith in
-        let q : at ≡ n * 16 = omega arith in
-        let d : length (drop (n * 16) m) ≡ length m - n * 16 = length-drop (n * 16) m in
-        ap₂ (λ (y z : List ℕ). ciph (y ⊕ z)) (so ∙ ap (chain ciph m) b)
-        (ap (λ (k : ℕ). padded (drop k m) ⊕ k2) q
-        ∙ ap (λ (t : Bool). if t then drop (n * 16) m ⊕ k1 else padded (drop (n * 16) m) ⊕ k2) (sym (ne-eqb (length (drop (n * 16) m)) 16 (omega arith))))
+-- the last block, whole or padded
+module _ (k1 k2 m : List ℕ) (at : ℕ) where
+  pub last-whole : length m - at ≡ 16 → take 16 (drop at m) ⊕ k1 ≡ lastBlock k1 k2 (drop at m)
+  unfolding lastBlock
+  last-whole h =
+      let l = drop at m in
+      let d : length l ≡ 16 = length-drop at m ∙ h in
+      ap (λ (z : List ℕ). z ⊕ k1) (take-all 16 l (omega arith)) ∙ ap (λ (t : Bool). if t then l ⊕ k1 else padded l ⊕ k2) (sym (eq-eqb (length l) 16 d))
+
+  pub last-padded : (length m - at ≡ 16 → ⊥) → padded (drop at m) ⊕ k2 ≡ lastBlock k1 k2 (drop at m)
+  unfolding lastBlock
+  last-padded h =
+      let l = drop at m in
+      ap (λ (t : Bool). if t then l ⊕ k1 else padded l ⊕ k2) (sym (ne-eqb (length l) 16 (λ (e : length l ≡ 16). h (sym (length-drop at m) ∙ e))))
 
 -- ---- sizes
 

@@ -2,14 +2,7 @@
 pub mod Xor
 pub mod Numbers
 pub mod Slots
-pub mod Table
 pub mod Loop
-pub mod TableRules
-pub mod Mixing
-pub mod States
-pub mod Schedules
-pub mod WordLaws
-pub mod RoundTrip
 pub mod Doubling
 pub mod Chain
 pub mod BenchCards

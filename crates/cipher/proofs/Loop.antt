@@ -1,54 +1,13 @@
--- One law for every loop that writes an array from the front: where it is to become t, after i turns the array l is `part i t l`.
--- A loop's invariant is that equation; a turn is `part-turn`, what is not yet written is `part-read`, and the end is `part-done`.
-use mathlib.Core.Path.{_≡_, refl, sym, ap, _∙_}
+-- The law of loops that write an array from the front (fips197's Loop), passed on; and what it gives for the front and for a part of a longer slice.
+use mathlib.Core.Path.{_≡_, refl, ap, _∙_}
 use mathlib.Core.List.{List, [], _∷_, _++_, map, append-nil}
-use Prim.Native.Nat.{ℕ, zero, suc, _+_, _-_, _≤_, _<_, zero-le}
+use Prim.Native.Nat.{ℕ, zero, suc, _+_, _-_, _≤_, _<_}
 use native.Mathlib.Nat.{not-suc-le-zero, le-of-suc-le-suc}
-use native.Mathlib.Numerals.{add-one}
-use lib.ListN.{length, getD, set, take, drop, drop-of-length-le, length-drop}
-use borrow.Rule.Slice.PartMut.{putMid}
-use lib.Seq.{take-length, drop-nil, take-all, drop-drop, drop-length}
 use native.Mathlib.Omega.{arith}
-
-abbrev pub part : ℕ → List ℕ → List ℕ → List ℕ
-part i t l = take i t ++ drop i l
-
-part-suc : (i : ℕ) (t l : List ℕ) → i < length l → i < length t → set (part i t l) i (getD t i 0) ≡ part (suc i) t l
-part-suc i t [] h k = absurd (not-suc-le-zero h)
-part-suc i [] (x ∷ l) h k = absurd (not-suc-le-zero k)
-part-suc zero (y ∷ t) (x ∷ l) h k = refl
-part-suc (suc i) (y ∷ t) (x ∷ l) h k = ap (λ (z : List ℕ). y ∷ z) (part-suc i t l (le-of-suc-le-suc h) (le-of-suc-le-suc k))
-
--- a turn stores t's element
-pub part-more : (i : ℕ) (t l : List ℕ) (v : ℕ) → i < length l → i < length t → v ≡ getD t i 0 → set (part i t l) i v ≡ part (i + 1) t l
-part-more i t l v h k e = ap (set (part i t l) i) e ∙ part-suc i t l h k ∙ ap (λ (n : ℕ). part n t l) (sym (add-one i))
-
--- what has not been reached is l's
-pub part-at : (i : ℕ) (t l : List ℕ) → i < length t → getD (part i t l) i 0 ≡ getD l i 0
-part-at i [] l k = absurd (not-suc-le-zero k)
-part-at zero (y ∷ t) [] k = refl
-part-at zero (y ∷ t) (x ∷ l) k = refl
-part-at (suc i) (y ∷ t) [] k = ap (λ (z : List ℕ). getD (take i t ++ z) i 0) (sym (drop-nil i)) ∙ part-at i t [] (le-of-suc-le-suc k)
-part-at (suc i) (y ∷ t) (x ∷ l) k = part-at i t l (le-of-suc-le-suc k)
-
--- at the end it is t
-pub part-all : (i : ℕ) (t l : List ℕ) → length t ≤ i → length l ≤ i → part i t l ≡ t
-part-all zero [] [] h k = refl
-part-all zero [] (x ∷ l) h k = absurd (not-suc-le-zero k)
-part-all zero (y ∷ t) l h k = absurd (not-suc-le-zero h)
-part-all (suc i) [] [] h k = refl
-part-all (suc i) [] (x ∷ l) h k = drop-of-length-le l (le-of-suc-le-suc k)
-part-all (suc i) (y ∷ t) [] h k = ap (λ (z : List ℕ). y ∷ z) (ap (λ (z : List ℕ). take i t ++ z) (sym (drop-nil i)) ∙ part-all i t [] (le-of-suc-le-suc h) zero-le)
-part-all (suc i) (y ∷ t) (x ∷ l) h k = ap (λ (z : List ℕ). y ∷ z) (part-all i t l (le-of-suc-le-suc h) (le-of-suc-le-suc k))
-
-pub part-turn : (i : ℕ) (t l s : List ℕ) (v : ℕ) → s ≡ part i t l → i < length l → i < length t → v ≡ getD t i 0 → set s i v ≡ part (i + 1) t l
-part-turn i t l s v p h k e = ap (λ (z : List ℕ). set z i v) p ∙ part-more i t l v h k e
-
-pub part-read : (i : ℕ) (t l s : List ℕ) → s ≡ part i t l → i < length t → getD s i 0 ≡ getD l i 0
-part-read i t l s p k = ap (λ (z : List ℕ). getD z i 0) p ∙ part-at i t l k
-
-pub part-done : (n : ℕ) (i : ℕ) (t l s : List ℕ) → s ≡ part i t l → n ≤ i → length t ≡ n → length l ≡ n → s ≡ t
-part-done n i t l s p h e k = p ∙ part-all i t l (omega arith) (omega arith)
+use lib.ListN.{length, getD, take, drop, length-drop}
+use lib.Seq.{take-length, take-all, drop-drop, drop-length}
+use borrow.Rule.Slice.PartMut.{putMid}
+pub use Rattle.fips197.proofs.Loop.{part, part-turn, part-read, part-done}
 
 pub map-at : (f : ℕ → ℕ) (l : List ℕ) (i : ℕ) → i < length l → getD (map f l) i 0 ≡ f (getD l i 0)
 map-at f [] i h = absurd (not-suc-le-zero h)

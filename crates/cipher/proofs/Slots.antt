@@ -101,6 +101,20 @@ front-next f o k out r out′ F h e l g =
 pub front-done : (f : ℕ → List ℕ) (o : List ℕ) (k n : ℕ) (out : List ℕ) → Front f o k out → k ≡ n → out ≡ listOf f n ++ drop (16 * n) o
 front-done f o k n out F e = F .so ∙ ap (λ (m : ℕ). listOf f m ++ drop (16 * m) o) e
 
+-- the block that the walk comes to next is still o's
+pub front-here : (f : ℕ → List ℕ) (o : List ℕ) (k : ℕ) (out : List ℕ) → Front f o k out → slot out k ≡ slot o k
+unfolding slot
+front-here f o k out F =
+    ap (λ (x : List ℕ). take 16 (drop (16 * k) x)) (F .so) ∙ ap (take 16) (drop-at (listOf f k) (drop (16 * k) o) (16 * k) (F .long))
+
+-- so a walk may write each block over the one that it was made of
+pub place-next : (g : ℕ → List ℕ → List ℕ) (o : List ℕ) (k : ℕ) (out b r out′ : List ℕ) → Front (λ i. g i (slot o i)) o k out
+    → 16 * (k + 1) ≤ length o → b ≡ take 16 (drop (16 * k) out) → r ≡ g k b → length r ≡ 16
+    → out′ ≡ take (16 * k) out ++ (r ++ drop (16 * k + 16) out) → Front (λ i. g i (slot o i)) o (k + 1) out′
+unfolding slot
+place-next g o k out b r out′ F h eb er l e =
+    front-next (λ i. g i (slot o i)) o k out r out′ F h (er ∙ ap (g k) (eb ∙ front-here (λ i. g i (slot o i)) o k out F)) l e
+
 -- ---- lists of blocks
 
 pub listOf-length : (f : ℕ → List ℕ) (n : ℕ) → ((k : ℕ) → k < n → length (f k) ≡ 16) → length (listOf f n) ≡ 16 * n
@@ -133,3 +147,15 @@ slot-listOf f (suc n) rest h k l = go (eq-or-lt-of-le (le-of-suc-le-suc l)) (slo
         ∙ ap (slot (listOf f n ++ (f n ++ rest))) (sym z)
         ∙ slot-behind (listOf f n) (f n ++ rest) 0 n whole ∙ slot-first (f n) rest (h n (omega arith)) ∙ ap f (sym e)
     go (inr b) earlier = ap (λ (x : List ℕ). slot x k) (append-assoc (listOf f n) (f n) rest) ∙ earlier b
+
+-- a walk in place over blocks that were put there makes its blocks of those
+pub second-walk : (f : ℕ → List ℕ) (g : ℕ → List ℕ → List ℕ) (n : ℕ) (o a b : List ℕ) → ((k : ℕ) → k < n → length (f k) ≡ 16)
+    → a ≡ listOf f n ++ drop (16 * n) o → b ≡ listOf (λ k. g k (slot a k)) n ++ drop (16 * n) a
+    → b ≡ listOf (λ k. g k (f k)) n ++ drop (16 * n) o
+second-walk f g n o a b h ea eb =
+    let blocks : listOf (λ k. g k (slot a k)) n ≡ listOf (λ k. g k (f k)) n
+    = listOf-ext (λ k. g k (slot a k)) (λ k. g k (f k)) n
+    (λ k l. ap (g k) (ap (λ (x : List ℕ). slot x k) ea ∙ slot-listOf f n (drop (16 * n) o) h k l)) in
+    let rest : drop (16 * n) a ≡ drop (16 * n) o
+    = ap (drop (16 * n)) ea ∙ drop-at (listOf f n) (drop (16 * n) o) (16 * n) (listOf-length f n h) in
+    eb ∙ ap₂ _++_ blocks rest

@@ -1,9 +1,9 @@
 // Blocks of 16 bytes, where they stand in longer slices, and big-endian numbers.
 ghost use mathlib.Core.Path.{_≡_};
-ghost use Prim.Native.Nat.{_+_, _≤_};
+ghost use Prim.Native.Nat.{_+_, _*_, _≤_};
 ghost use lib.ListN.{length, take, drop};
 ghost use mathlib.Core.List.{[], _∷_, _++_};
-ghost use Rattle.cipher.specs.Block.{_⊕_, same};
+ghost use Rattle.cipher.specs.Block.{_⊕_, slot, listOf, same};
 ghost use Rattle.cipher.specs.Number.{number, bigEndian};
 ghost use Rattle.cipher.specs.Double.{double};
 
@@ -66,6 +66,19 @@ pub fn put_at(out: &mut [u8], at: usize, block: [u8; 16])
     ensures { λ _. ⌜ now (out .exit) ≡ take at (now (out .entry)) ++ (block ++ drop (at + 16) (now (out .entry))) ⌝ }
 {
     put(&mut out[at..], block);
+}
+
+// Writes the first n blocks of s to the front of out; what is behind them stays.
+pub fn copy_blocks(s: &[u8], n: usize, out: &mut [u8])
+    requires { ⌜ (16 * n ≤ length (now s)) × (16 * n ≤ length (now out)) ⌝ }
+    ensures { λ _. ⌜ now (out .exit) ≡ listOf (slot (now (s .entry))) n ++ drop (16 * n) (now (out .entry)) ⌝ }
+{
+    let mut k = 0;
+    while k < n {
+        let at = 16 * k;
+        put_at(out, at, block_at(s, at));
+        k += 1;
+    }
 }
 
 // XORs a block into the one that stands at a place of out; all else stays.

@@ -28,7 +28,18 @@ fn across(a: &[u8], b: &[u8], at: usize) -> [u8; 16]
     r
 }
 
-// The 16 bytes of two parts at a place.
+// The 16 bytes of two parts at a place in the first.
+pub fn early(a: &[u8], b: &[u8], at: usize) -> [u8; 16]
+    requires { ⌜ (at < length (now a)) × (at + 16 ≤ length (now a) + length (now b)) ⌝ }
+    ensures { λ r. ⌜ r ≡ take 16 (drop at (now (a .entry) ++ now (b .entry))) ⌝ }
+{
+    if 16 <= a.len() - at {
+        return block_at(a, at);
+    }
+    across(a, b, at)
+}
+
+// The 16 bytes of two parts at a place. Nearly all blocks lie in the second, so that these are read at once.
 pub fn block(a: &[u8], b: &[u8], at: usize) -> [u8; 16]
     requires { ⌜ at + 16 ≤ length (now a) + length (now b) ⌝ }
     ensures { λ r. ⌜ r ≡ take 16 (drop at (now (a .entry) ++ now (b .entry))) ⌝ }
@@ -36,10 +47,7 @@ pub fn block(a: &[u8], b: &[u8], at: usize) -> [u8; 16]
     if a.len() <= at {
         return block_at(b, at - a.len());
     }
-    if 16 <= a.len() - at {
-        return block_at(a, at);
-    }
-    across(a, b, at)
+    early(a, b, at)
 }
 
 // What is left of two parts at a place, fewer than 16 bytes, padded.

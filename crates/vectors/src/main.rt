@@ -1,5 +1,6 @@
 // Runs the examples of FIPS 197, RFC 4493 and document 01 and prints what comes out, a line each. What the standards say comes out
-// is typed in from them; a line whose result differs says WRONG, and what was expected.
+// is typed in from them; a line whose result differs says WRONG, and what was expected. The cipher layer, which computes by the tables,
+// runs them all; the plain engine runs those of AES-128.
 use cipher::aes;
 use cipher::block;
 use cipher::cmac;
@@ -142,10 +143,40 @@ fn bench_cards() {
     );
 }
 
+// The examples of AES-128 by the plain engine.
+fn by_the_plain_engine() {
+    line(
+        b"FIPS 197 B encipher, plain engine",
+        &plain::encipher(B_KEY, B_INPUT),
+        &B_OUTPUT,
+    );
+    line(
+        b"FIPS 197 B decipher, plain engine",
+        &plain::decipher(B_KEY, B_OUTPUT),
+        &B_INPUT,
+    );
+    line(
+        b"FIPS 197 C.1 encipher, plain engine",
+        &plain::encipher(C1_KEY, C1_PLAINTEXT),
+        &C1_CIPHERTEXT,
+    );
+    line(
+        b"FIPS 197 C.1 decipher, plain engine",
+        &plain::decipher(C1_KEY, C1_CIPHERTEXT),
+        &C1_PLAINTEXT,
+    );
+    line(
+        b"RFC 4493 AES-128(key,0), plain engine",
+        &plain::encipher(KEY, [0u8; 16]),
+        &ZERO_ENCIPHERED,
+    );
+}
+
 fn main() {
     fips_197();
     subkeys();
     examples();
     examples_in_parts();
     bench_cards();
+    by_the_plain_engine();
 }

@@ -1,14 +1,6 @@
--- The expanded key gives what the key gives; then the inverse law, over a key of 16 bytes (Laws).
-use mathlib.Core.Path.{_≡_, ap, _∙_}
-use Prim.Native.Nat.{ℕ, _<_}
-use native.Mathlib.Omega.{arith}
-use lib.ListN.{length, getD}
+-- With the expanded key; then the inverse law, over a key of 16 bytes (Laws).
 use Rattle.cipher.specs.Block.{Block}
-use mir.Val.{Fits}
-use mir.Syntax.{w8}
-use Rattle.cipher.specs.Aes.{encipher}
-use Rattle.cipher.proofs.Laws.{encipher-is, encipher-decipher}
-use Rattle.cipher.proofs.Xor.{bytes-from}
+use Rattle.fips197.proofs.Laws.{block-of, enciphered}
 use borrow.Author.Needs.{needs}
 use Rattle.cipher.proofs.aes.encipher.Statement.{statement}
 use Rattle.cipher.proofs.aes.encipher.Tie as tie
@@ -23,12 +15,8 @@ returns : tie.Need-returns
 returns c =
     let d = c .before .before in
     let key = d .args .key in
-    let h : length key ≡ 16 = search needs in
-    let f : (i : ℕ) → i < length key → Fits w8 (getD key i 0) = λ i l. (let l′ : i < 16 = omega arith in search needs) in
-    let hk : Block key = record { long = h; bytes = bytes-from key (λ i l. f i l .fits) } in
-    let e : c .encipher-with .result ≡ encipher key (d .args .block)
-    = c .encipher-with .ensures ∙ encipher-is key _ (d .args .block) (c .before .key-expansion .ensures) in
-    (e, λ b hb p. e ∙ ap (encipher key) p ∙ encipher-decipher key hk b hb)
+    let hk : Block key = block-of key (search needs) (λ i l. search needs) in
+    enciphered key hk _ (d .args .block) _ (c .before .key-expansion .ensures) (c .encipher-with .ensures)
 
 pub encipher-spec : {M : Type 1} → statement M
 encipher-spec = tie.close (tie.spec key-expansion-requires encipher-with-requires returns)

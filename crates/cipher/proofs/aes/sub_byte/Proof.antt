@@ -1,15 +1,17 @@
--- By the rule of the table (TableRules).
-use Rattle.cipher.proofs.TableRules.{sboxTable, sbox-table}
+-- The table is the S-box.
+use Rattle.cipher.specs.Aes.{sbox}
 use borrow.Author.Needs.{needs}
 use Rattle.cipher.proofs.aes.sub_byte.Statement.{statement}
 use Rattle.cipher.proofs.aes.sub_byte.Tie as tie
 
-array-read-result : tie.Need-array-read-result
-array-read-result c = search needs
+table-requires : tie.Need-table-requires
+table-requires c κs = search needs
+
+lookup-requires : tie.Need-lookup-requires
+lookup-requires c κs = search needs
 
 returns : tie.Need-returns
-unfolding sboxTable
-returns c = sbox-table (c .args .b) (search needs)
+returns c = c .lookup .ensures sbox (c .before .before .table .ensures)
 
 pub sub-byte-spec : {M : Type 1} → statement M
-sub-byte-spec = tie.close (tie.spec array-read-result returns)
+sub-byte-spec = tie.close (tie.spec table-requires lookup-requires returns)

@@ -1,7 +1,6 @@
--- In the second part, in the first, or across the seam (Chain).
+-- In the second part, or from the first (Chain).
 use mathlib.Core.Path.{_∙_}
-use native.Mathlib.Omega.{arith}
-use Rattle.cipher.proofs.Chain.{in-first, in-second}
+use Rattle.cipher.proofs.Chain.{in-second}
 use borrow.Author.Needs.{needs}
 use Rattle.cipher.proofs.parts.block.Statement.{statement}
 use Rattle.cipher.proofs.parts.block.Tie as tie
@@ -17,32 +16,11 @@ returns c =
     let d = c .before .before .before .before in
     c .block-at .ensures ∙ in-second (d .args .a .now) (d .args .b .now) (d .args .at) (c .before .if1 .taken)
 
-sub-if2 : tie.Need-sub-if2
-sub-if2 c = search needs
-
-block-at-requires-2 : tie.Need-block-at-requires-2
-block-at-requires-2 c κs = search needs
+early-requires : tie.Need-early-requires
+early-requires c κs = search needs
 
 returns-2 : tie.Need-returns-2
-returns-2 c =
-    let d = c .before .before .before .before .before in
-    c .block-at2 .ensures ∙ in-first (d .args .a .now) (d .args .b .now) (d .args .at) (omega arith)
-
-across-requires : tie.Need-across-requires
-across-requires c κs = search needs
-
-returns-3 : tie.Need-returns-3
-returns-3 c = search needs
+returns-2 c = search needs
 
 pub block-spec : {M : Type 1} → statement M
-block-spec =
-    tie.close
-    (tie.spec
-    sub-block-at
-    block-at-requires
-    returns
-    sub-if2
-    block-at-requires-2
-    returns-2
-    across-requires
-    returns-3)
+block-spec = tie.close (tie.spec sub-block-at block-at-requires returns early-requires returns-2)

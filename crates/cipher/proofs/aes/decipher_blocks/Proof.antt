@@ -1,0 +1,94 @@
+-- Each turn deciphers one block in its place; those before it stay, and those behind it are still as they were (Slots). The schedule is
+-- any whose deciphering schedule the words are.
+use mathlib.Core.Path.{_≡_, refl}
+use mathlib.Core.List.{List}
+use Prim.Native.Nat.{ℕ, _-_, _≤_}
+use native.Mathlib.Omega.{arith}
+use lib.ListN.{length}
+use Rattle.tables.specs.RoundTables.{DecipherWords}
+use Rattle.cipher.specs.Block.{slot}
+use Rattle.cipher.specs.Aes.{invCipher}
+use Rattle.cipher.proofs.Slots.{Front, front-first, place-next, front-done}
+use borrow.Author.Needs.{needs}
+use Rattle.cipher.proofs.aes.decipher_blocks.Statement.{statement}
+use Rattle.cipher.proofs.aes.decipher_blocks.Tie as tie
+
+abbrev Inv-loop : tie.InvT-loop
+Inv-loop n buf₀ t last words k₀ buf k = (k ≤ n) × (length buf ≡ length buf₀) × ((w : List ℕ) → length w ≡ 176 → DecipherWords words w → Front (λ i. invCipher w (slot buf₀ i)) buf₀ k buf)
+
+abbrev μ-loop : tie.MeasureT-loop
+μ-loop n buf₀ t last words k₀ buf k = n - k
+
+table-requires : tie.Need-table-requires Inv-loop μ-loop
+table-requires c κs = search needs
+
+table-requires-2 : tie.Need-table-requires-2 Inv-loop μ-loop
+table-requires-2 c κs = search needs
+
+decipher-words-requires : tie.Need-decipher-words-requires Inv-loop μ-loop
+decipher-words-requires c κs = search needs
+
+loop-holds : tie.Need-loop-holds Inv-loop μ-loop
+loop-holds c = (omega arith, refl, λ w h g. front-first _ _)
+
+mul-at : tie.Need-mul-at Inv-loop μ-loop
+mul-at c = search needs
+
+block-at-requires : tie.Need-block-at-requires Inv-loop μ-loop
+block-at-requires c κs = search needs
+
+inv-cipher-requires : tie.Need-inv-cipher-requires Inv-loop μ-loop
+inv-cipher-requires c κs = search needs
+
+put-at-requires : tie.Need-put-at-requires Inv-loop μ-loop
+put-at-requires c κs = search needs
+
+add-k : tie.Need-add-k Inv-loop μ-loop
+add-k c = search needs
+
+loop-less : tie.Need-loop-less Inv-loop μ-loop
+loop-less c = search needs
+
+loop-again : tie.Need-loop-again Inv-loop μ-loop
+loop-again c =
+    let b = c .before .before .before .before .before .before .before .before in
+    let l = b .before .before .before in
+    let r = c .before .before .before .inv-cipher in
+    let h : length (r .result) ≡ 16 = search needs in (
+      omega arith,
+      omega arith,
+      λ w hw g.
+          place-next (λ i. invCipher w) _ (l .loop .k) _ (b .block-at .result) (r .result) _ (l .loop .inv .2 w hw g) (omega arith)
+          (b .block-at .ensures) (r .ensures w hw g) h (c .before .before .put-at .ensures),
+    )
+
+same-length : tie.Need-same-length Inv-loop μ-loop
+same-length c = search needs
+
+returns : tie.Need-returns Inv-loop μ-loop
+returns c =
+    let l = c .before in
+    let words = l .before .decipher-words in
+    let w = l .before .before .before .before .before .args .w in
+    let h : length w ≡ 176 = search needs in
+    front-done _ _ (l .loop .k) _ _ (l .loop .inv .2 w h (words .ensures)) (omega arith)
+
+pub decipher-blocks-spec : {M : Type 1} → statement M
+decipher-blocks-spec =
+    tie.close
+    (tie.spec
+    Inv-loop
+    μ-loop
+    table-requires
+    table-requires-2
+    decipher-words-requires
+    loop-holds
+    mul-at
+    block-at-requires
+    inv-cipher-requires
+    put-at-requires
+    add-k
+    loop-less
+    loop-again
+    same-length
+    returns)

@@ -1,0 +1,63 @@
+-- Each turn writes one block; those before it stay (Slots).
+use Prim.Native.Nat.{_-_, _≤_}
+use native.Mathlib.Omega.{arith}
+use Rattle.cipher.specs.Block.{slot}
+use Rattle.cipher.proofs.Slots.{Front, front-first, front-next, front-done}
+use borrow.Author.Needs.{needs}
+use Rattle.cipher.proofs.block.copy_blocks.Statement.{statement}
+use Rattle.cipher.proofs.block.copy_blocks.Tie as tie
+
+abbrev Inv-loop : tie.InvT-loop
+Inv-loop s n out₀ k₀ out k = (k ≤ n) × Front (slot s) out₀ k out
+
+abbrev μ-loop : tie.MeasureT-loop
+μ-loop s n out₀ k₀ out k = n - k
+
+loop-holds : tie.Need-loop-holds Inv-loop μ-loop
+loop-holds c = search (needs, front-first)
+
+mul-at : tie.Need-mul-at Inv-loop μ-loop
+mul-at c = search needs
+
+block-at-requires : tie.Need-block-at-requires Inv-loop μ-loop
+block-at-requires c κs = search needs
+
+put-at-requires : tie.Need-put-at-requires Inv-loop μ-loop
+put-at-requires c κs = search needs
+
+add-k : tie.Need-add-k Inv-loop μ-loop
+add-k c = search needs
+
+loop-less : tie.Need-loop-less Inv-loop μ-loop
+loop-less c = search needs
+
+loop-again : tie.Need-loop-again Inv-loop μ-loop
+unfolding slot
+loop-again c =
+    let l = c .before .before .before .before .before .before in
+    let r = c .before .before .before .block-at in (
+      omega arith,
+      front-next (slot _) _ (l .loop .k) _ (r .result) _ (l .loop .inv .1) (omega arith) (r .ensures) (search needs) (c .before .before .put-at .ensures),
+    )
+
+same-length : tie.Need-same-length Inv-loop μ-loop
+same-length c = search needs
+
+returns : tie.Need-returns Inv-loop μ-loop
+returns c = front-done _ _ (c .before .loop .k) _ _ (c .before .loop .inv .1) (omega arith)
+
+pub copy-blocks-spec : {M : Type 1} → statement M
+copy-blocks-spec =
+    tie.close
+    (tie.spec
+    Inv-loop
+    μ-loop
+    loop-holds
+    mul-at
+    block-at-requires
+    put-at-requires
+    add-k
+    loop-less
+    loop-again
+    same-length
+    returns)

@@ -1,0 +1,28 @@
+-- A column at a time (WordLaws).
+use Rattle.fips197.proofs.WordLaws.{shifted-columns}
+use borrow.Author.Needs.{needs}
+use Rattle.fips197.proofs.columns.shift.Statement.{statement}
+use Rattle.fips197.proofs.columns.shift.Tie as tie
+
+gather-requires : tie.Need-gather-requires
+gather-requires c κs = search needs
+
+gather-requires-2 : tie.Need-gather-requires-2
+gather-requires-2 c κs = search needs
+
+gather-requires-3 : tie.Need-gather-requires-3
+gather-requires-3 c κs = search needs
+
+gather-requires-4 : tie.Need-gather-requires-4
+gather-requires-4 c κs = search needs
+
+returns : tie.Need-returns
+returns c =
+    let s = c .before .before .before .before .args .s in
+    λ f e. shifted-columns f (s .a) (s .b) (s .c) (s .d) _ _ _ _
+    (c .before .before .before .gather .ensures f e) (c .before .before .gather2 .ensures f e) (c .before .gather3 .ensures f e) (c .gather4 .ensures f e)
+
+pub shift-spec : {M : Type 1} → statement M
+shift-spec =
+    tie.close
+    (tie.spec gather-requires gather-requires-2 gather-requires-3 gather-requires-4 returns)

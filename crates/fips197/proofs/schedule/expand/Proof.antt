@@ -1,0 +1,71 @@
+-- Each turn writes a word: the words before i are the schedule so far (Schedules).
+use mathlib.Core.Path.{_≡_, refl, ap, _∙_}
+use Prim.Native.Nat.{_+_, _-_, _*_, _≤_}
+use native.Mathlib.Omega.{arith}
+use lib.ListN.{length, take}
+use Rattle.fips197.specs.Aes.{expanded, keyExpansion}
+use Rattle.fips197.proofs.Schedules.{put-length, schedule-more, schedule-done}
+use borrow.Author.Needs.{needs}
+use Rattle.fips197.proofs.schedule.expand.Statement.{statement}
+use Rattle.fips197.proofs.schedule.expand.Tie as tie
+
+abbrev Inv-loop : tie.InvT-loop
+Inv-loop t w₀ i₀ w i = (4 ≤ i) × (i ≤ 44) × (length w ≡ 176) × (take (4 * i) w ≡ expanded (take 16 w₀) (i - 4))
+
+abbrev μ-loop : tie.MeasureT-loop
+μ-loop t w₀ i₀ w i = 44 - i
+
+table-requires : tie.Need-table-requires Inv-loop μ-loop
+table-requires c κs = search needs
+
+begin-requires : tie.Need-begin-requires Inv-loop μ-loop
+begin-requires c κs = search needs
+
+loop-holds : tie.Need-loop-holds Inv-loop μ-loop
+unfolding expanded
+loop-holds c = (omega arith, omega arith, search needs, refl)
+
+put-word-requires : tie.Need-put-word-requires Inv-loop μ-loop
+put-word-requires c κs =
+    let l = c .before .before .before in
+    (l .before .before .table .ensures, (omega arith, omega arith, l .loop .inv .2))
+
+add-i : tie.Need-add-i Inv-loop μ-loop
+add-i c = search needs
+
+loop-less : tie.Need-loop-less Inv-loop μ-loop
+loop-less c = search needs
+
+loop-again : tie.Need-loop-again Inv-loop μ-loop
+loop-again c =
+    let l = c .before .before .before .before in
+    let w = l .loop .w in
+    let i = l .loop .i in
+    let h : length w ≡ 176 = l .loop .inv .2 in (
+      omega arith,
+      omega arith,
+      ap length (c .put-word .ensures) ∙ put-length w i (l .loop .inv .0) (omega arith) ∙ h,
+      ap (take (4 * (i + 1))) (c .put-word .ensures) ∙ schedule-more (take 16 (l .before .begin .result)) w i (l .loop .inv .0) (omega arith) (l .loop .inv .3),
+    )
+
+returns : tie.Need-returns Inv-loop μ-loop
+returns c =
+    let l = c .before in
+    let e : l .loop .i ≡ 44 = omega arith in
+    schedule-done (take 16 (l .before .begin .result)) (l .loop .w) (l .loop .i) e (l .loop .inv .2) (l .loop .inv .3)
+    ∙ ap keyExpansion (l .before .begin .ensures)
+
+pub expand-spec : {M : Type 1} → statement M
+expand-spec =
+    tie.close
+    (tie.spec
+    Inv-loop
+    μ-loop
+    table-requires
+    begin-requires
+    loop-holds
+    put-word-requires
+    add-i
+    loop-less
+    loop-again
+    returns)

@@ -1,0 +1,15 @@
+-- By the rule of the table (TableRules).
+use Rattle.fips197.proofs.TableRules.{rconTable, rcon-table}
+use borrow.Author.Needs.{needs}
+use Rattle.fips197.proofs.schedule.rcon.Statement.{statement}
+use Rattle.fips197.proofs.schedule.rcon.Tie as tie
+
+array-read-result : tie.Need-array-read-result
+array-read-result c = search needs
+
+returns : tie.Need-returns
+unfolding rconTable
+returns c = rcon-table (c .args .j) (c .pre .0) (c .pre .1)
+
+pub rcon-spec : {M : Type 1} → statement M
+rcon-spec = tie.close (tie.spec array-read-result returns)

@@ -1,0 +1,22 @@
+-- With the expanded key; then the inverse law, over a key of 16 bytes (Laws).
+use Rattle.fips197.specs.Block.{Block}
+use Rattle.fips197.proofs.Laws.{block-of, enciphered}
+use borrow.Author.Needs.{needs}
+use Rattle.plain.proofs.encipher.Statement.{statement}
+use Rattle.plain.proofs.encipher.Tie as tie
+
+expand-requires : tie.Need-expand-requires
+expand-requires c κs = search needs
+
+encipher-with-requires : tie.Need-encipher-with-requires
+encipher-with-requires c κs = search needs
+
+returns : tie.Need-returns
+returns c =
+    let d = c .before .before in
+    let key = d .args .key in
+    let hk : Block key = block-of key (search needs) (λ i l. search needs) in
+    enciphered key hk _ (d .args .block) _ (c .before .expand .ensures) (c .encipher-with .ensures)
+
+pub encipher-spec : {M : Type 1} → statement M
+encipher-spec = tie.close (tie.spec expand-requires encipher-with-requires returns)

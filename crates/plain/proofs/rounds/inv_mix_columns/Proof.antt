@@ -1,0 +1,30 @@
+-- A column at a time (WordLaws).
+use Rattle.fips197.proofs.WordLaws.{mixed-columns}
+use Rattle.fips197.specs.Aes.{invMixed, invMixColumns}
+use borrow.Author.Needs.{needs}
+use Rattle.plain.proofs.rounds.inv_mix_columns.Statement.{statement}
+use Rattle.plain.proofs.rounds.inv_mix_columns.Tie as tie
+
+inv-mix-requires : tie.Need-inv-mix-requires
+inv-mix-requires c κs = search needs
+
+inv-mix-requires-2 : tie.Need-inv-mix-requires-2
+inv-mix-requires-2 c κs = search needs
+
+inv-mix-requires-3 : tie.Need-inv-mix-requires-3
+inv-mix-requires-3 c κs = search needs
+
+inv-mix-requires-4 : tie.Need-inv-mix-requires-4
+inv-mix-requires-4 c κs = search needs
+
+returns : tie.Need-returns
+unfolding invMixColumns
+returns c =
+    let s = c .before .before .before .before .args .s in
+    mixed-columns invMixed (s .a) (s .b) (s .c) (s .d) _ _ _ _
+    (c .before .before .before .inv-mix .ensures) (c .before .before .inv-mix2 .ensures) (c .before .inv-mix3 .ensures) (c .inv-mix4 .ensures)
+
+pub inv-mix-columns-spec : {M : Type 1} → statement M
+inv-mix-columns-spec =
+    tie.close
+    (tie.spec inv-mix-requires inv-mix-requires-2 inv-mix-requires-3 inv-mix-requires-4 returns)

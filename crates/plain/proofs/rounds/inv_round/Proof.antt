@@ -1,0 +1,30 @@
+-- The steps, one after the other.
+use mathlib.Core.Path.{ap, _∙_}
+use mathlib.Core.List.{List}
+use Prim.Native.Nat.{ℕ}
+use Rattle.fips197.specs.Block.{_⊕_}
+use Rattle.fips197.specs.Aes.{invSbox, invSubBytes, invMixColumns, roundKey}
+use borrow.Author.Needs.{needs}
+use Rattle.plain.proofs.rounds.inv_round.Statement.{statement}
+use Rattle.plain.proofs.rounds.inv_round.Tie as tie
+
+inv-shift-requires : tie.Need-inv-shift-requires
+inv-shift-requires c κs = search needs
+
+add-round-key-requires : tie.Need-add-round-key-requires
+add-round-key-requires c κs = search needs
+
+inv-mix-columns-requires : tie.Need-inv-mix-columns-requires
+inv-mix-columns-requires c κs = search needs
+
+returns : tie.Need-returns
+unfolding invSubBytes
+returns c =
+    let d = c .before .before .before in
+    c .inv-mix-columns .ensures
+    ∙ ap invMixColumns (c .before .add-round-key .ensures
+    ∙ ap (λ (s : List ℕ). s ⊕ roundKey (d .args .w .now) (d .args .n)) (c .before .before .inv-shift .ensures invSbox (d .pre .0)))
+
+pub inv-round-spec : {M : Type 1} → statement M
+inv-round-spec =
+    tie.close (tie.spec inv-shift-requires add-round-key-requires inv-mix-columns-requires returns)

@@ -1,0 +1,59 @@
+-- Each turn writes a word (KeyLaws).
+use mathlib.Core.Path.{_≡_, refl, _∙_}
+use Prim.Native.Nat.{ℕ, _-_, _≤_, _<_}
+use native.Mathlib.Omega.{arith}
+use lib.ListN.{length, getD, length-set}
+use Rattle.fips197.specs.Words.{bytesOf}
+use Rattle.tables.specs.RoundTables.{decipherWord}
+use Rattle.tables.proofs.KeyLaws.{words-more}
+use borrow.Author.Needs.{needs}
+use Rattle.tables.proofs.keys.decipher_words.Statement.{statement}
+use Rattle.tables.proofs.keys.decipher_words.Tie as tie
+
+abbrev Inv-loop : tie.InvT-loop
+Inv-loop w k₀ i₀ k i = (i ≤ 44) × (length k ≡ 44) × ((j : ℕ) → j < i → bytesOf (getD k j 0) ≡ decipherWord w j)
+
+abbrev μ-loop : tie.MeasureT-loop
+μ-loop w k₀ i₀ k i = 44 - i
+
+loop-holds : tie.Need-loop-holds Inv-loop μ-loop
+loop-holds c = (omega arith, refl, λ j l. absurd (omega arith))
+
+decipher-word-requires : tie.Need-decipher-word-requires Inv-loop μ-loop
+decipher-word-requires c κs = search needs
+
+mul-k : tie.Need-mul-k Inv-loop μ-loop
+mul-k c = search needs
+
+array-write-k : tie.Need-array-write-k Inv-loop μ-loop
+array-write-k c = search needs
+
+add-i : tie.Need-add-i Inv-loop μ-loop
+add-i c = search needs
+
+loop-less : tie.Need-loop-less Inv-loop μ-loop
+loop-less c = search needs
+
+loop-again : tie.Need-loop-again Inv-loop μ-loop
+loop-again c =
+    let l = c .before .before .before in
+    let k = l .loop .k in
+    (omega arith, length-set k (l .loop .i) _ ∙ l .loop .inv .1, words-more _ k (l .loop .i) _ (omega arith) (l .loop .inv .2) (c .decipher-word .ensures))
+
+returns : tie.Need-returns Inv-loop μ-loop
+returns c = record { entry = λ j l. c .before .loop .inv .2 j (omega arith) }
+
+pub decipher-words-spec : {M : Type 1} → statement M
+decipher-words-spec =
+    tie.close
+    (tie.spec
+    Inv-loop
+    μ-loop
+    loop-holds
+    decipher-word-requires
+    mul-k
+    array-write-k
+    add-i
+    loop-less
+    loop-again
+    returns)

@@ -1,0 +1,16 @@
+-- The rule of the tables, tested at every word (TableRules).
+use mathlib.Core.Path.{refl}
+use Rattle.fips197.specs.Field.{xtimes, productBy, _•_}
+use Rattle.fips197.specs.Aes.{sbox}
+use Rattle.fips197.proofs.TableRules.{sboxTable, sbox-table, sbox-lt}
+use Rattle.tables.specs.RoundTables.{spread, down, roundEntry}
+use Rattle.tables.proofs.TableRules.{isEntry, tables-rule, spread-bytes}
+use Rattle.tables.proofs.round_tables.table.Statement.{statement}
+use Rattle.tables.proofs.round_tables.table.Tie as tie
+
+returns : tie.Need-returns
+unfolding roundEntry isEntry down spread _•_ productBy xtimes sboxTable
+returns c = tables-rule spread sbox sboxTable _ spread-bytes sbox-lt sbox-table refl tt
+
+pub table-spec : {M : Type 1} → statement M
+table-spec = tie.close (tie.spec returns)

@@ -1,0 +1,91 @@
+-- Each turn is a round (RoundTrip).
+use mathlib.Core.Path.{_≡_, refl, ap, ap₂, _∙_}
+use mathlib.Core.List.{List}
+use Prim.Native.Nat.{ℕ, _+_, _-_, _≤_}
+use native.Mathlib.Omega.{arith}
+use Rattle.fips197.specs.Block.{_⊕_}
+use Rattle.fips197.specs.Aes.{sbox, subBytes, shiftRows, roundKey, rounds, cipher}
+use Rattle.fips197.proofs.RoundTrip.{rounds-more}
+use Rattle.fips197.specs.Words.{stateOf}
+use borrow.Author.Needs.{needs}
+use Rattle.tables.proofs.rounds.cipher.Statement.{statement}
+use Rattle.tables.proofs.rounds.cipher.Tie as tie
+
+abbrev Inv-loop : tie.InvT-loop
+Inv-loop t last w s₀ n₀ s n = (n ≤ 9) × (stateOf (s .a) (s .b) (s .c) (s .d) ≡ rounds w n (stateOf (s₀ .a) (s₀ .b) (s₀ .c) (s₀ .d)))
+
+abbrev μ-loop : tie.MeasureT-loop
+μ-loop t last w s₀ n₀ s n = 9 - n
+
+load-requires : tie.Need-load-requires Inv-loop μ-loop
+load-requires c κs = search needs
+
+add-round-key-requires : tie.Need-add-round-key-requires Inv-loop μ-loop
+add-round-key-requires c κs = search needs
+
+loop-holds : tie.Need-loop-holds Inv-loop μ-loop
+unfolding rounds
+loop-holds c = (omega arith, refl)
+
+add-n : tie.Need-add-n Inv-loop μ-loop
+add-n c = search needs
+
+mix-requires : tie.Need-mix-requires Inv-loop μ-loop
+mix-requires c κs = search needs
+
+add-round-key-requires-2 : tie.Need-add-round-key-requires-2 Inv-loop μ-loop
+add-round-key-requires-2 c κs = search needs
+
+loop-less : tie.Need-loop-less Inv-loop μ-loop
+loop-less c = search needs
+
+loop-again : tie.Need-loop-again Inv-loop μ-loop
+loop-again c =
+    let l = c .before .before .before in
+    let w = l .before .before .before .args .w .now in
+    let n = l .loop .n in (
+      omega arith,
+      c .add-round-key2 .ensures ∙ ap (λ (s : List ℕ). s ⊕ roundKey w (n + 1)) (c .before .mix .ensures) ∙ rounds-more w n _ _ (l .loop .inv .1),
+    )
+
+shift-requires : tie.Need-shift-requires Inv-loop μ-loop
+shift-requires c κs = search needs
+
+add-round-key-requires-3 : tie.Need-add-round-key-requires-3 Inv-loop μ-loop
+add-round-key-requires-3 c κs = search needs
+
+store-requires : tie.Need-store-requires Inv-loop μ-loop
+store-requires c κs = search needs
+
+returns : tie.Need-returns Inv-loop μ-loop
+unfolding cipher subBytes
+returns c =
+    let l = c .before .before .before .before in
+    let d = l .before .before .before in
+    let w = d .args .w .now in
+    let e : l .loop .n ≡ 9 = omega arith in
+    c .store .ensures
+    ∙ c .before .add-round-key3 .ensures
+    ∙ ap (λ (s : List ℕ). s ⊕ roundKey w 10)
+    (c .before .before .shift .ensures sbox (d .pre .1 .0)
+    ∙ ap (λ (s : List ℕ). shiftRows (subBytes s))
+    (l .loop .inv .1 ∙ ap₂ (rounds w) e (l .before .add-round-key .ensures ∙ ap (λ (s : List ℕ). s ⊕ roundKey w 0) (l .before .before .load .ensures))))
+
+pub cipher-spec : {M : Type 1} → statement M
+cipher-spec =
+    tie.close
+    (tie.spec
+    Inv-loop
+    μ-loop
+    load-requires
+    add-round-key-requires
+    loop-holds
+    add-n
+    mix-requires
+    add-round-key-requires-2
+    loop-less
+    loop-again
+    shift-requires
+    add-round-key-requires-3
+    store-requires
+    returns)
