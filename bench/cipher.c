@@ -137,5 +137,7 @@ int main(void)
     row("decipher, 4096 blocks, plain", plain_decipher, their_decipher, LONG, LONG, 1);
     row("key and one block, tables", our_setup, their_encipher, 16, 16, 200);
     row("key and one block, plain", plain_setup, their_encipher, 16, 16, 200);
+    /* The two engines side by side: here "theirs" is the plain one. */
+    row("key and one block, tables/plain", our_setup, plain_setup, 16, 16, 200);
     return 0;
 }
