@@ -23,15 +23,6 @@ five {A} s f g = go (ltb s 5) refl
     go true e = f (ltb-true s 5 e)
     go false e = g (ltb-false s 5 e)
 
--- what is none of the numbers before n is at least n
-abbrev NoneBefore : ℕ → ℕ → Type 0
-NoneBefore zero k = Unit {0}
-NoneBefore (suc n) k = NoneBefore n k × (k ≡ n → ⊥)
-
-pub at-least : (n k : ℕ) → NoneBefore n k → n ≤ k
-at-least zero k h = omega arith
-at-least (suc n) k h = omega (arith, at-least n k (h .0), h .1)
-
 -- a column of five entries is f, where f is 0 past them
 column-is : (l : List ℕ) (f : ℕ → ℕ) → length l ≡ 5 → ((s : ℕ) → 5 ≤ s → f s ≡ 0) → every (λ s. eqb (getD l s 0) (f s)) 5 ≡ true
     → (s : ℕ) → getD l s 0 ≡ f s

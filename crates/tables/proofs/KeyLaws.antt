@@ -1,4 +1,4 @@
--- The words of a schedule, and of the deciphering schedule: the loops that make them, and the round keys that they are.
+-- The words of the deciphering schedule: the loop that makes them, and the round keys that they are.
 use mathlib.Core.Path.{_≡_, refl, sym, ap, _∙_}
 use mathlib.Core.List.{List, _++_}
 use mathlib.Core.Logic.{⊎-elim}
@@ -15,7 +15,7 @@ use Rattle.fips197.proofs.Schedules.{word-is, roundKey-words, roundKey-length}
 use Rattle.tables.specs.RoundTables.{decipherWord}
 use Rattle.tables.proofs.Joining.{invMixColumns-xor}
 
--- ---- the loops
+-- ---- the loop
 
 -- one more word is written
 pub words-more : (f : ℕ → List ℕ) (k : List ℕ) (i v : ℕ) → i < length k → ((j : ℕ) → j < i → bytesOf (getD k j 0) ≡ f j) → bytesOf v ≡ f i
