@@ -1,0 +1,193 @@
+-- The check polynomial of any list: its degree and the generator polynomial's make m, it takes to 0 what D(x) makes of any sequence of period m, and the
+-- generator polynomial is a multiple of D(x) there (Bézout's identity).
+use mathlib.Core.Path.{_≡_, refl, sym, ap, ap₂, _∙_}
+use mathlib.Core.Bool.{Bool, true, false, _&&_, xor}
+use mathlib.Core.List.{List, [], _∷_, _++_, map}
+use Prim.Native.Nat.{ℕ, zero, suc, _+_, _-_, _≤_, _<_}
+use native.Mathlib.Omega.{arith}
+use lib.Dec.{eqb, ltb}
+use lib.ListN.{set}
+use Rattle.cipher.specs.Block.{if_then_else_, _⊕_, zeros}
+use Rattle.incidence.specs.Family.{parity}
+use Rattle.polynomials.specs.Polynomial.{longer, size, raised, gcd}
+use Rattle.polynomials.specs.CyclicCode.{modulus, ofList, generator, check}
+use Rattle.polynomials.proofs.Parity.{xor-none, xor-turn, xor-four, xor-self, xor-and, parity-ext, parity-append, parity-map}
+use Rattle.polynomials.proofs.Sizes.{size-most}
+use Rattle.polynomials.proofs.Terms.{modulus-length, ofList-length}
+use Rattle.polynomials.proofs.Acting.{Bits, act, act-sum, act-zero, act-zeros, act-raised, act-none}
+use Rattle.polynomials.proofs.Lessening.{Poly, poly-raised, poly-sum, bits-zeros}
+use Rattle.polynomials.proofs.Euclid.{Kills, Ends, gcd-keeps, gcd-ends}
+use Rattle.polynomials.proofs.Division.{Divided, quotient-size, quotient-divided}
+use Rattle.polynomials.proofs.Recurring.{act-ext, act-nothing, recurring, recurring-killed, shorter-none}
+
+-- ---- two polynomials act in either order
+
+act-both : (q : List ℕ) (f g : ℕ → Bool) (x : ℕ) → act q (λ y. xor (f y) (g y)) x ≡ xor (act q f x) (act q g x)
+unfolding act
+act-both [] f g x = sym (xor-none false)
+act-both (c ∷ q) f g x =
+    ap₂ xor (xor-and (eqb c 1) (f x) (g x)) (act-both q f g (suc x))
+    ∙ xor-four (eqb c 1 && f x) (eqb c 1 && g x) (act q f (suc x)) (act q g (suc x))
+
+act-on : (q : List ℕ) (f : ℕ → Bool) (x : ℕ) → act q (λ y. f (suc y)) x ≡ act q f (suc x)
+unfolding act
+act-on [] f x = refl
+act-on (c ∷ q) f x = ap (xor (eqb c 1 && f (suc x))) (act-on q f (suc x))
+
+act-if : (t : Bool) (q : List ℕ) (f : ℕ → Bool) (x : ℕ) → act q (λ y. t && f y) x ≡ t && act q f x
+act-if true q f x = refl
+act-if false q f x = act-nothing q x
+
+pub act-swap : (p q : List ℕ) (f : ℕ → Bool) (x : ℕ) → act p (act q f) x ≡ act q (act p f) x
+unfolding act
+act-swap [] q f x = sym (act-nothing q x)
+act-swap (c ∷ p) q f x =
+    ap₂ xor (sym (act-if (eqb c 1) q f x)) (act-swap p q f (suc x) ∙ sym (act-on q (act p f) x))
+    ∙ sym (act-both q (λ y. eqb c 1 && f y) (λ y. act p f (suc y)) x)
+
+-- ---- the two polynomials that Euclid's algorithm begins with
+
+module _ (m : ℕ) (some : 0 < m) where
+  poly-modulus : Poly (suc m) (modulus m)
+  unfolding modulus
+  poly-modulus = record { long = modulus-length m some; bits = (omega arith, bits-zeros (m - 1) (1 ∷ []) (omega arith, tt)) }
+
+  size-modulus : size (modulus m) ≡ suc m
+  unfolding modulus size longer
+  size-modulus = ap (longer 1) (behind (m - 1)) ∙ (let e : suc (suc (m - 1)) ≡ suc m = omega arith in e)
+    where
+      behind : (k : ℕ) → size (zeros k ++ (1 ∷ [])) ≡ suc k
+      behind zero = refl
+      behind (suc k) = ap (longer 0) (behind k)
+
+  -- x^m + 1 compares places m apart
+  act-modulus : (f : ℕ → Bool) (x : ℕ) → act (modulus m) f x ≡ xor (f x) (f (x + m))
+  unfolding modulus act
+  act-modulus f x =
+      let e : suc x + (m - 1) ≡ x + m = omega arith in
+      ap (xor (f x)) (act-zeros (m - 1) (1 ∷ []) f (suc x) ∙ xor-turn (f (suc x + (m - 1))) false ∙ xor-none (f (suc x + (m - 1))) ∙ ap f e)
+
+bits-set : (p : List ℕ) (k : ℕ) → Bits p → Bits (set p k 1)
+bits-set [] k b = tt
+bits-set (c ∷ p) zero b = (omega arith, b .1)
+bits-set (c ∷ p) (suc k) b = (b .0, bits-set p k (b .1))
+
+poly-list : (m : ℕ) (D : List ℕ) → Poly (suc m) (ofList m D)
+unfolding ofList
+poly-list m D = record { long = ofList-length m D; bits = bits D }
+  where
+    bits : (D : List ℕ) → Bits (ofList m D)
+    bits [] = zero-bits (suc m)
+      where
+        zero-bits : (n : ℕ) → Bits (zeros n)
+        zero-bits zero = tt
+        zero-bits (suc n) = (omega arith, zero-bits n)
+    bits (e ∷ D) = go (bits D) (ltb e m)
+      where
+        go : Bits (ofList m D) → (t : Bool) → Bits (if t then set (ofList m D) e 1 else ofList m D)
+        go b true = bits-set (ofList m D) e b
+        go b false = b
+
+-- ---- the generator polynomial and the check polynomial
+
+-- p is a multiple of D(x) on sequences of period m: the XOR of turns of what D(x) makes of them
+pub record Multiple (m : ℕ) (D p : List ℕ) : Type 0 where
+  pub turns : List ℕ
+  pub says : (f : ℕ → Bool) → ((x : ℕ) → f (x + m) ≡ f x) → (x : ℕ) → act p f x ≡ parity (λ u. act (ofList m D) f (x + u)) turns
+
+module _ (m : ℕ) (D : List ℕ) (some : 0 < m) where
+  P : Poly (suc m) (ofList m D)
+  P = poly-list m D
+
+  Q : Poly (suc m) (modulus m)
+  Q = poly-modulus m some
+
+  G : Poly (suc m) (generator m D)
+  unfolding generator gcd
+  G = gcd-keeps (suc m) (Poly (suc m)) (λ p q k hp hq l kp kq. poly-sum (suc m) p q hp hq k) (size (ofList m D) + size (modulus m)) (ofList m D) (modulus m) P Q P Q
+
+  ends : Ends (ofList m D) (modulus m) (generator m D)
+  unfolding generator gcd
+  ends = gcd-ends (suc m) (size (ofList m D) + size (modulus m)) (ofList m D) (modulus m) P Q (omega arith)
+
+  pub generator-some : 0 < size (generator m D)
+  generator-some = ends .some (omega (arith, size-modulus m some))
+
+  pub generator-most : size (generator m D) ≤ suc m
+  generator-most = omega (arith, size-most (generator m D), G .long)
+
+  -- deg h = m − deg g
+  pub check-size : size (check m D) ≡ suc (suc m - size (generator m D))
+  unfolding check
+  check-size =
+      quotient-size (suc m) (generator m D) G generator-some (modulus m) Q (omega (arith, generator-most, size-modulus m some))
+      ∙ ap (λ (n : ℕ). suc (n - size (generator m D))) (size-modulus m some)
+
+  multiple-sum : (p q : List ℕ) (k : ℕ) → Poly (suc m) p → Poly (suc m) q → size q + k ≤ suc m → Multiple m D p → Multiple m D q
+      → Multiple m D (p ⊕ raised k q)
+  multiple-sum p q k hp hq l mp mq = record {
+    turns = mp .turns ++ map (λ u. k + u) (mq .turns);
+    says = λ f per x.
+        let F : ℕ → Bool = λ u. act (ofList m D) f (x + u) in
+        act-sum p (raised k q) f x (hp .bits) (poly-raised (suc m) p q hp hq k .bits) (hp .long ∙ sym (poly-raised (suc m) p q hp hq k .long))
+        ∙ ap₂ xor (mp .says f per x)
+        (act-raised k q f x (omega (arith, hq .long))
+        ∙ mq .says f per (x + k)
+        ∙ parity-ext (λ u. act (ofList m D) f (x + k + u)) (λ u. act (ofList m D) f (x + (k + u)))
+        (λ u. let e : x + k + u ≡ x + (k + u) = omega arith in ap (act (ofList m D) f) e) (mq .turns)
+        ∙ sym (parity-map F (λ u. k + u) (mq .turns)))
+        ∙ sym (parity-append F (mp .turns) (map (λ u. k + u) (mq .turns)));
+  }
+
+  -- Bézout's identity
+  pub bezout : Multiple m D (generator m D)
+  unfolding generator gcd parity
+  bezout =
+      gcd-keeps (suc m) (Multiple m D) multiple-sum (size (ofList m D) + size (modulus m)) (ofList m D) (modulus m) P Q
+      (record {
+        turns = 0 ∷ [];
+        says = λ f per x.
+            let e : x ≡ x + 0 = omega arith in
+            ap (act (ofList m D) f) e ∙ sym (xor-turn (act (ofList m D) f (x + 0)) false ∙ xor-none (act (ofList m D) f (x + 0)));
+      })
+      (record { turns = []; says = λ f per x. act-modulus m some f x ∙ ap (xor (f x)) (per x) ∙ xor-self (f x) })
+
+  whole : Divided (suc m) (zeros (suc m)) (modulus m) (generator m D) (check m D)
+  unfolding check
+  whole = quotient-divided (suc m) (generator m D) G generator-some (modulus m) Q
+
+  -- what the generator polynomial takes to 0, the rest of the division does
+  rest-kills : (f : ℕ → Bool) → Kills (generator m D) f → Kills (whole .rest) f
+  rest-kills f k x =
+      sym (xor-none (act (whole .rest) f x))
+      ∙ ap (λ (t : Bool). xor t (act (whole .rest) f x)) (sym (act-ext (check m D) (act (generator m D) f) (λ y. false) x (λ i l. k (x + i)) ∙ act-nothing (check m D) x))
+      ∙ whole .says f x
+      ∙ ap₂ xor (act-zero (suc m) (act (generator m D) f) x) (ends .kills f k .1 x)
+      ∙ xor-none false
+
+  rest-none : size (whole .rest) ≡ 0
+  rest-none = go (size (generator m D)) refl
+    where
+      go : (n : ℕ) → size (generator m D) ≡ n → size (whole .rest) ≡ 0
+      go zero e = omega (arith, whole .short)
+      go (suc n) e =
+          shorter-none (generator m D) n e (whole .rest) (omega (arith, whole .short))
+          (rest-kills (recurring (generator m D) n e) (recurring-killed (generator m D) n e))
+
+  -- g(x) h(x) = x^m + 1
+  pub check-times : (f : ℕ → Bool) (x : ℕ) → act (check m D) (act (generator m D) f) x ≡ act (modulus m) f x
+  check-times f x =
+      sym (ap (xor (act (check m D) (act (generator m D) f) x)) (act-none (whole .rest) f x (omega (arith, rest-none)))
+      ∙ xor-turn (act (check m D) (act (generator m D) f) x) false
+      ∙ xor-none (act (check m D) (act (generator m D) f) x))
+      ∙ whole .says f x
+      ∙ ap (λ (t : Bool). xor t (act (modulus m) f x)) (act-zero (suc m) (act (generator m D) f) x)
+      ∙ xor-none (act (modulus m) f x)
+
+  -- h(x) D(x) is 0 modulo x^m + 1
+  pub check-kills : (f : ℕ → Bool) → ((x : ℕ) → f (x + m) ≡ f x) → Kills (check m D) (act (ofList m D) f)
+  check-kills f per x = act-swap (check m D) (ofList m D) f x ∙ ends .kills (act (check m D) f) generator-kills .0 x
+    where
+      generator-kills : Kills (generator m D) (act (check m D) f)
+      generator-kills x =
+          act-swap (generator m D) (check m D) f x ∙ check-times f x ∙ act-modulus m some f x ∙ ap (xor (f x)) (per x) ∙ xor-self (f x)

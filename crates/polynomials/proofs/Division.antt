@@ -1,0 +1,175 @@
+-- Long division, for any two polynomials: the divisor times the quotient and a rest that is shorter than the divisor add up to what was divided, as
+-- they act on any sequence; and the quotient's degree is the difference of the two degrees.
+use mathlib.Core.Path.{_≡_, refl, sym, ap, ap₂, _∙_}
+use mathlib.Core.Bool.{Bool, true, false, _||_, _&&_, xor}
+use mathlib.Core.Logic.{_⊎_, inl, inr}
+use mathlib.Core.List.{List, [], _∷_}
+use Prim.Native.Nat.{ℕ, zero, suc, _+_, _-_, _≤_, _<_}
+use native.Mathlib.Omega.{arith}
+use lib.Dec.{eqb, ltb}
+use lib.ListN.{length, getD, set, length-set, length-replicate}
+use lib.Seq.{getD-set-other}
+use borrow.Author.Tests.{eqb-true, ltb-true, ltb-false}
+use Rattle.cipher.specs.Block.{zeros}
+use Rattle.incidence.specs.Count.{bit}
+use Rattle.incidence.proofs.Booleans.{or-cases}
+use Rattle.incidence.proofs.Counting.{bit-most}
+use Rattle.polynomials.specs.Polynomial.{longer, size, raised, less, quotientIn, quotient}
+use Rattle.polynomials.proofs.Parity.{xor-none, xor-three, xor-turn, xor-self}
+use Rattle.polynomials.proofs.Sizes.{size-most}
+use Rattle.polynomials.proofs.Dividing.{quotient-goes}
+use Rattle.polynomials.proofs.Acting.{act, act-sum, act-raised}
+use Rattle.polynomials.proofs.Lessening.{Poly, poly-raised, poly-less, less-shorter}
+use Rattle.polynomials.proofs.Euclid.{or-neither}
+
+-- ---- a term more
+
+act-term : (h : List ℕ) (j : ℕ) (f : ℕ → Bool) (x : ℕ) → j < length h → getD h j 0 ≡ 0 → act (set h j 1) f x ≡ xor (act h f x) (f (x + j))
+unfolding act
+act-term [] j f x l e = absurd (omega arith)
+act-term (c ∷ h) zero f x l e =
+    let z : x ≡ x + 0 = omega arith in
+    xor-turn (f x) (act h f (suc x))
+    ∙ ap₂ xor (sym (ap (λ (c : ℕ). xor (eqb c 1 && f x) (act h f (suc x))) e ∙ xor-none (act h f (suc x)))) (ap f z)
+act-term (c ∷ h) (suc j) f x l e =
+    let z : suc x + j ≡ x + suc j = omega arith in
+    ap (xor (eqb c 1 && f x)) (act-term h j f (suc x) (omega arith) e)
+    ∙ xor-three (eqb c 1 && f x) (act h f (suc x)) (f (suc x + j))
+    ∙ ap (λ (y : ℕ). xor (xor (eqb c 1 && f x) (act h f (suc x))) (f y)) z
+
+-- ---- the quotient and the rest
+
+-- what h and p are of q together, so h′ and a rest
+pub record Divided (w : ℕ) (h p q h′ : List ℕ) : Type 0 where
+  pub rest : List ℕ
+  pub poly : Poly w rest
+  pub short : size rest < size q
+  pub says : (f : ℕ → Bool) (x : ℕ) → xor (act h′ (act q f) x) (act rest f x) ≡ xor (act h (act q f) x) (act p f x)
+
+-- no term of h stands where one is still to come
+abbrev Free : List ℕ → ℕ → Type 0
+Free h n = (j : ℕ) → j < n → getD h j 0 ≡ 0
+
+module _ (w : ℕ) (q : List ℕ) (Q : Poly w q) (some : 0 < size q) where
+  stays : (h p : List ℕ) → Poly w p → size p < size q → Divided w h p q h
+  stays h p P l = record { rest = p; poly = P; short = l; says = λ f x. refl }
+
+  -- a step
+  goes : (h p h′ : List ℕ) → Poly w p → length h ≡ w → size q ≤ size p → getD h (size p - size q) 0 ≡ 0
+      → Divided w (set h (size p - size q) 1) (less p q) q h′ → Divided w h p q h′
+  unfolding less
+  goes h p h′ P e l z d =
+      record {
+        rest = d .rest;
+        poly = d .poly;
+        short = d .short;
+        says = λ f x.
+            d .says f x
+            ∙ ap₂ xor (act-term h k (act q f) x (omega (arith, size-most p, P .long)) z)
+            (act-sum p (raised k q) f x (P .bits) (poly-raised w p q P Q k .bits) (P .long ∙ sym (poly-raised w p q P Q k .long))
+            ∙ ap (xor (act p f x)) (act-raised k q f x (omega (arith, size-most p, P .long, Q .long))))
+            ∙ ap (xor (xor (act h (act q f) x) (act q f (x + k)))) (xor-turn (act p f x) (act q f (x + k)))
+            ∙ both (act h (act q f) x) (act q f (x + k)) (act p f x);
+      }
+    where
+      k : ℕ
+      k = size p - size q
+
+      both : (a b c : Bool) → xor (xor a b) (xor b c) ≡ xor a c
+      both a b c = sym (xor-three a b (xor b c)) ∙ ap (xor a) (xor-three b b c ∙ ap (λ (t : Bool). xor t c) (xor-self b) ∙ xor-none c)
+
+  pub divided : (n : ℕ) (h p : List ℕ) → Poly w p → length h ≡ w → size p ≤ n → Free h (suc (size p) - size q) → Divided w h p q (quotientIn n h p q)
+  unfolding quotientIn
+  divided zero h p P e l z = stays h p P (omega arith)
+  divided (suc n) h p P e l z =
+      go (λ u.
+      let s : size (less p q) < size p = less-shorter w p q P Q some u in
+      divided n (set h (size p - size q) 1) (less p q) (poly-less w p q P Q) (length-set h (size p - size q) 1 ∙ e) (omega arith)
+      (λ j a. getD-set-other h (size p - size q) j 1 0 (λ e. omega arith) ∙ z j (omega arith))) (eqb (size q) 0 || ltb (size p) (size q)) refl
+    where
+      k : ℕ
+      k = size p - size q
+
+      none : (eqb (size q) 0 ≡ true) ⊎ (ltb (size p) (size q) ≡ true) → size p < size q
+      none (inl t) = absurd (omega (arith, some, eqb-true (size q) 0 t))
+      none (inr t) = ltb-true (size p) (size q) t
+
+      go : (size q ≤ size p → Divided w (set h k 1) (less p q) q (quotientIn n (set h k 1) (less p q) q)) → (t : Bool)
+          → (eqb (size q) 0 || ltb (size p) (size q)) ≡ t
+          → Divided w h p q (elim t [ true ↦ h | false ↦ quotientIn n (set h k 1) (less p q) q ])
+      go next true t = stays h p P (none (or-cases (eqb (size q) 0) (ltb (size p) (size q)) t))
+      go next false t =
+          let u : size q ≤ size p = ltb-false (size p) (size q) (or-neither (eqb (size q) 0) (ltb (size p) (size q)) t .1) in
+          goes h p _ P e u (z k (omega arith)) (next u)
+
+-- ---- the quotient's degree
+
+-- a term below the highest leaves the size as it is
+size-term : (h : List ℕ) (j : ℕ) → j < size h → size (set h j 1) ≡ size h
+unfolding size longer
+size-term [] j l = absurd (omega arith)
+size-term (c ∷ h) zero l = go (size h) (eqb c 1) refl l
+  where
+    go : (n : ℕ) (t : Bool) → eqb c 1 ≡ t → 0 < longer c n → longer 1 n ≡ longer c n
+    go zero true e a = sym (ap bit e)
+    go zero false e a = absurd (omega (arith, ap bit e))
+    go (suc n) t e a = refl
+size-term (c ∷ h) (suc j) l = ap (longer c) (size-term h j (go (size h) l))
+  where
+    go : (n : ℕ) → suc j < longer c n → j < n
+    go zero a = absurd (omega (arith, bit-most (eqb c 1)))
+    go (suc n) a = omega arith
+
+-- the first term, put into zeros, is the highest
+size-first : (n j : ℕ) → j < n → size (set (zeros n) j 1) ≡ suc j
+unfolding size longer
+size-first zero j l = absurd (omega arith)
+size-first (suc n) zero l = ap (longer 1) (size-zero n)
+  where
+    size-zero : (n : ℕ) → size (zeros n) ≡ 0
+    size-zero zero = refl
+    size-zero (suc n) = ap (longer 0) (size-zero n)
+size-first (suc n) (suc j) l = ap (longer 0) (size-first n j (omega arith))
+
+module _ (w : ℕ) (q : List ℕ) (Q : Poly w q) (some : 0 < size q) where
+  size-kept : (n : ℕ) (h p : List ℕ) → Poly w p → size p < size h + size q → size (quotientIn n h p q) ≡ size h
+  unfolding quotientIn
+  size-kept zero h p P l = refl
+  size-kept (suc n) h p P l =
+      go (λ u.
+      let s : size (less p q) < size p = less-shorter w p q P Q some u in
+      let t : size (set h (size p - size q) 1) ≡ size h = size-term h (size p - size q) (omega arith) in
+      size-kept n (set h (size p - size q) 1) (less p q) (poly-less w p q P Q) (omega arith) ∙ t) (eqb (size q) 0 || ltb (size p) (size q)) refl
+    where
+      go : (size q ≤ size p → size (quotientIn n (set h (size p - size q) 1) (less p q) q) ≡ size h) → (t : Bool)
+          → (eqb (size q) 0 || ltb (size p) (size q)) ≡ t
+          → size (elim t [ true ↦ h | false ↦ quotientIn n (set h (size p - size q) 1) (less p q) q ]) ≡ size h
+      go next true t = refl
+      go next false t = next (ltb-false (size p) (size q) (or-neither (eqb (size q) 0) (ltb (size p) (size q)) t .1))
+
+  pub quotient-size : (p : List ℕ) → Poly w p → size q ≤ size p → size (quotient p q) ≡ suc (size p - size q)
+  unfolding quotient
+  quotient-size p P l = go (size p) refl
+    where
+      k : ℕ
+      k = size p - size q
+
+      first : size (set (zeros (length p)) k 1) ≡ suc k
+      first = size-first (length p) k (omega (arith, size-most p))
+
+      go : (n : ℕ) → size p ≡ n → size (quotientIn n (zeros (length p)) p q) ≡ suc k
+      go zero e = absurd (omega arith)
+      go (suc n) e =
+          ap size (quotient-goes (zeros (length p)) p q n (λ z. omega arith) l)
+          ∙ size-kept n (set (zeros (length p)) k 1) (less p q) (poly-less w p q P Q) (omega (arith, less-shorter w p q P Q some l, first))
+          ∙ first
+
+  pub quotient-divided : (p : List ℕ) → Poly w p → Divided w (zeros w) p q (quotient p q)
+  unfolding quotient
+  quotient-divided p P =
+      rw (P .long) (divided w q Q some (size p) (zeros w) p P (length-replicate w 0) (omega arith) (λ j a. zeros-at w j))
+    where
+      zeros-at : (n j : ℕ) → getD (zeros n) j 0 ≡ 0
+      zeros-at zero j = refl
+      zeros-at (suc n) zero = refl
+      zeros-at (suc n) (suc j) = zeros-at n j

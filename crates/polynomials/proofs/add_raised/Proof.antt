@@ -1,0 +1,64 @@
+-- From x^k on, each turn adds one coefficient (Raising).
+use mathlib.Core.Path.{_≡_}
+use Prim.Native.Nat.{_-_, _≤_}
+use lib.ListN.{length}
+use Rattle.cipher.specs.Block.{_⊕_}
+use Rattle.cipher.proofs.Loop.{part}
+use Rattle.polynomials.specs.Polynomial.{raised}
+use Rattle.polynomials.proofs.Raising.{sum-begun, sum-next, sum-done}
+use borrow.Author.Needs.{needs}
+use Rattle.polynomials.proofs.add_raised.Statement.{statement}
+use Rattle.polynomials.proofs.add_raised.Tie as tie
+
+abbrev Inv-loop : tie.InvT-loop
+Inv-loop p₀ q k i₀ p i = (k ≤ i) × (i ≤ length p₀) × (length p ≡ length p₀) × (p ≡ part i (p₀ ⊕ raised k q) p₀)
+
+abbrev μ-loop : tie.MeasureT-loop
+μ-loop p₀ q k i₀ p i = length p₀ - i
+
+loop-holds : tie.Need-loop-holds Inv-loop μ-loop
+loop-holds c = search (needs, sum-begun)
+
+slice-read-p : tie.Need-slice-read-p Inv-loop μ-loop
+slice-read-p c = search needs
+
+sub-p : tie.Need-sub-p Inv-loop μ-loop
+sub-p c = search needs
+
+shared-slice-read-p : tie.Need-shared-slice-read-p Inv-loop μ-loop
+shared-slice-read-p c = search needs
+
+slice-write-p : tie.Need-slice-write-p Inv-loop μ-loop
+slice-write-p c = search needs
+
+add-i : tie.Need-add-i Inv-loop μ-loop
+add-i c = search needs
+
+loop-less : tie.Need-loop-less Inv-loop μ-loop
+loop-less c = search needs
+
+loop-again : tie.Need-loop-again Inv-loop μ-loop
+loop-again c = search (needs, sum-next)
+
+same-length : tie.Need-same-length Inv-loop μ-loop
+same-length c = search needs
+
+returns : tie.Need-returns Inv-loop μ-loop
+returns c = search (needs, sum-done)
+
+pub add-raised-spec : {M : Type 1} → statement M
+add-raised-spec =
+    tie.close
+    (tie.spec
+    Inv-loop
+    μ-loop
+    loop-holds
+    slice-read-p
+    sub-p
+    shared-slice-read-p
+    slice-write-p
+    add-i
+    loop-less
+    loop-again
+    same-length
+    returns)

@@ -1,0 +1,20 @@
+-- By whether e is below m.
+use borrow.Author.Tests.{lt-ltb, le-ltb}
+use borrow.Author.Needs.{needs}
+use Rattle.polynomials.proofs.add_term.Statement.{statement}
+use Rattle.polynomials.proofs.add_term.Tie as tie
+
+slice-write-p : tie.Need-slice-write-p
+slice-write-p c = search needs
+
+same-length : tie.Need-same-length
+same-length c = search needs
+
+returns : tie.Need-returns
+returns c = search (needs, lt-ltb)
+
+returns-2 : tie.Need-returns-2
+returns-2 c = search (needs, le-ltb)
+
+pub add-term-spec : {M : Type 1} → statement M
+add-term-spec = tie.close (tie.spec slice-write-p same-length returns returns-2)

@@ -1,0 +1,95 @@
+-- Each array holds what the next call asks; the steps of the quotient are the pattern (Deriving). In the answers d, e, g and f are the
+-- places behind the calls that write D(x), x^m + 1, their divisor and x^m + 1 again, and s is the start.
+use mathlib.Core.Path.{ap, _∙_}
+use mathlib.Core.List.{List, _++_}
+use Prim.Native.Nat.{ℕ, suc}
+use native.Mathlib.Omega.{arith}
+use lib.ListN.{length, drop}
+use Rattle.polynomials.proofs.Terms.{zeros-long}
+use Rattle.polynomials.proofs.Deriving.{zeros-modulus, steps-pattern}
+use borrow.Author.Needs.{needs}
+use Rattle.polynomials.proofs.derive.Statement.{statement}
+use Rattle.polynomials.proofs.derive.Tie as tie
+
+put-list-requires : tie.Need-put-list-requires
+put-list-requires c κs = search needs
+
+put-modulus-requires : tie.Need-put-modulus-requires
+put-modulus-requires c κs = search needs
+
+gcd-requires : tie.Need-gcd-requires
+gcd-requires c κs =
+    let e = c .before .before .before .before in
+    let d = e .before .before .before .before in
+    let s = d .before .before .before .before .before .before .before .before in
+    let ld = zeros-long (suc (s .args .m)) (s .args .d .now) (s .pre .3) in
+    let le = zeros-long (suc (s .args .m)) (s .args .e .now) (s .pre .4) in
+    (omega arith, omega arith)
+
+put-modulus-requires-2 : tie.Need-put-modulus-requires-2
+put-modulus-requires-2 c κs = search needs
+
+divide-requires : tie.Need-divide-requires
+divide-requires c κs =
+    let f = c .before .before .before .before .before in
+    let g = f .before .before .before .before .before .before in
+    let e = g .before .before .before .before .before in
+    let d = e .before .before .before .before in
+    let s = d .before .before .before .before .before .before .before .before in
+    let ld = zeros-long (suc (s .args .m)) (s .args .d .now) (s .pre .3) in
+    let lf = zeros-long (suc (s .args .m)) (s .args .f .now) (s .pre .5) in
+    (zeros-modulus (s .args .m) _ _ (s .pre .6) (f .put-modulus2 .ensures) (s .pre .0), omega arith)
+
+put-steps-requires : tie.Need-put-steps-requires
+put-steps-requires c κs =
+    let f = c .before .before .before .before .before .before .before .before .before .before .before .before in
+    let g = f .before .before .before .before .before .before in
+    let e = g .before .before .before .before .before in
+    let d = e .before .before .before .before in
+    let s = d .before .before .before .before .before .before .before .before in
+    let lh = zeros-long (suc (s .args .m)) (s .args .h .now) (s .pre .6) in
+    (omega arith, omega arith)
+
+same-length : tie.Need-same-length
+same-length c = search needs
+
+same-length-2 : tie.Need-same-length-2
+same-length-2 c = search needs
+
+same-length-3 : tie.Need-same-length-3
+same-length-3 c = search needs
+
+same-length-4 : tie.Need-same-length-4
+same-length-4 c = search needs
+
+same-length-5 : tie.Need-same-length-5
+same-length-5 c = search needs
+
+returns : tie.Need-returns
+returns c =
+    let p = c .before .before in
+    let q = p .before .before .before .before .before .before .before in
+    let f = q .before .before .before .before .before .before in
+    let g = f .before .before .before .before .before .before in
+    let e = g .before .before .before .before .before in
+    let d = e .before .before .before .before in
+    let s = d .before .before .before .before .before .before .before .before in
+    let w = steps-pattern (s .args .m) _ _ _ _ _ _ (q .divide .ensures) (f .put-modulus2 .ensures) (g .gcd .ensures) (d .put-list .ensures) (e .put-modulus .ensures) in
+    (p .put-steps .ensures .0 ∙ ap (λ (l : List ℕ). l ++ drop (length l) (s .args .out .now)) w, p .put-steps .ensures .1 ∙ ap length w)
+
+pub derive-spec : {M : Type 1} → statement M
+derive-spec =
+    tie.close
+    (tie.spec
+    put-list-requires
+    put-modulus-requires
+    gcd-requires
+    put-modulus-requires-2
+    divide-requires
+    put-steps-requires
+    same-length
+    same-length-2
+    same-length-3
+    same-length-4
+    same-length-5
+    returns)

@@ -1,0 +1,63 @@
+-- Each turn takes one step; what is left to do gives the quotient (Dividing).
+use mathlib.Core.Path.{_≡_}
+use Prim.Native.Nat.{_-_, _≤_}
+use lib.ListN.{length}
+use Rattle.polynomials.specs.Polynomial.{quotientIn, quotient}
+use Rattle.polynomials.proofs.Terms.{zeros-long}
+use Rattle.polynomials.proofs.Dividing.{quotient-begun, quotient-next, quotient-done}
+use borrow.Author.Needs.{needs}
+use Rattle.polynomials.proofs.divide.Statement.{statement}
+use Rattle.polynomials.proofs.divide.Tie as tie
+
+abbrev Inv-loop : tie.InvT-loop
+Inv-loop h₀ p₀ q most i₀ h p i =
+    (i ≤ most) × (length h ≡ length h₀) × (length p ≡ length p₀) × (quotientIn (most - i) h p q ≡ quotient p₀ q)
+
+abbrev μ-loop : tie.MeasureT-loop
+μ-loop h₀ p₀ q most i₀ h p i = most - i
+
+size-requires : tie.Need-size-requires Inv-loop μ-loop
+size-requires c κs = search needs
+
+loop-holds : tie.Need-loop-holds Inv-loop μ-loop
+loop-holds c = search (needs, quotient-begun)
+
+divide-once-requires : tie.Need-divide-once-requires Inv-loop μ-loop
+divide-once-requires c κs =
+    let d = c .before .before .before .before .before .before .before .before .before in
+    let e = zeros-long (length (d .args .p .now)) (d .args .h .now) (d .pre .0) in
+    search needs
+
+add-i : tie.Need-add-i Inv-loop μ-loop
+add-i c = search needs
+
+loop-less : tie.Need-loop-less Inv-loop μ-loop
+loop-less c = search needs
+
+loop-again : tie.Need-loop-again Inv-loop μ-loop
+loop-again c = search (needs, quotient-next)
+
+same-length : tie.Need-same-length Inv-loop μ-loop
+same-length c = search needs
+
+same-length-2 : tie.Need-same-length-2 Inv-loop μ-loop
+same-length-2 c = search needs
+
+returns : tie.Need-returns Inv-loop μ-loop
+returns c = search (needs, quotient-done)
+
+pub divide-spec : {M : Type 1} → statement M
+divide-spec =
+    tie.close
+    (tie.spec
+    Inv-loop
+    μ-loop
+    size-requires
+    loop-holds
+    divide-once-requires
+    add-i
+    loop-less
+    loop-again
+    same-length
+    same-length-2
+    returns)

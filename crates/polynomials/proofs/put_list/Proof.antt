@@ -1,0 +1,58 @@
+-- From the last member to the first, each turn adds one term (Terms).
+use mathlib.Core.Path.{_≡_}
+use Prim.Native.Nat.{_≤_}
+use lib.ListN.{length, drop}
+use Rattle.polynomials.specs.CyclicCode.{ofList}
+use Rattle.polynomials.proofs.Terms.{list-room, list-none, list-more, list-all}
+use borrow.Author.Needs.{needs}
+use Rattle.polynomials.proofs.put_list.Statement.{statement}
+use Rattle.polynomials.proofs.put_list.Tie as tie
+
+abbrev Inv-loop : tie.InvT-loop
+Inv-loop m list p₀ i₀ p i = (i ≤ length list) × (length p ≡ length p₀) × (p ≡ ofList m (drop i list))
+
+abbrev μ-loop : tie.MeasureT-loop
+μ-loop m list p₀ i₀ p i = i
+
+loop-holds : tie.Need-loop-holds Inv-loop μ-loop
+loop-holds c = search (needs, list-none)
+
+sub-i : tie.Need-sub-i Inv-loop μ-loop
+sub-i c = search needs
+
+mul-add-term : tie.Need-mul-add-term Inv-loop μ-loop
+mul-add-term c = search needs
+
+shared-slice-read-add-term : tie.Need-shared-slice-read-add-term Inv-loop μ-loop
+shared-slice-read-add-term c = search needs
+
+add-term-requires : tie.Need-add-term-requires Inv-loop μ-loop
+add-term-requires c κs = search (needs, list-room)
+
+loop-less : tie.Need-loop-less Inv-loop μ-loop
+loop-less c = search needs
+
+loop-again : tie.Need-loop-again Inv-loop μ-loop
+loop-again c = search (needs, list-more)
+
+same-length : tie.Need-same-length Inv-loop μ-loop
+same-length c = search needs
+
+returns : tie.Need-returns Inv-loop μ-loop
+returns c = search (needs, list-all)
+
+pub put-list-spec : {M : Type 1} → statement M
+put-list-spec =
+    tie.close
+    (tie.spec
+    Inv-loop
+    μ-loop
+    loop-holds
+    sub-i
+    mul-add-term
+    shared-slice-read-add-term
+    add-term-requires
+    loop-less
+    loop-again
+    same-length
+    returns)

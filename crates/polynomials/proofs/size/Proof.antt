@@ -1,0 +1,53 @@
+-- What is kept is the size of the coefficients passed (Sizes).
+use mathlib.Core.Path.{_≡_, _∙_}
+use mathlib.Core.Logic.{⊎-elim}
+use Prim.Native.Nat.{_-_, _≤_}
+use lib.ListN.{length, take}
+use Rattle.polynomials.specs.Polynomial.{size}
+use Rattle.polynomials.proofs.Sizes.{size-one, size-other, size-whole}
+use borrow.Author.Needs.{needs}
+use Rattle.polynomials.proofs.size.Statement.{statement}
+use Rattle.polynomials.proofs.size.Tie as tie
+
+abbrev Inv-loop : tie.InvT-loop
+Inv-loop p n₀ i₀ n i = (i ≤ length p) × (n ≡ size (take i p))
+
+abbrev μ-loop : tie.MeasureT-loop
+μ-loop p n₀ i₀ n i = length p - i
+
+loop-holds : tie.Need-loop-holds Inv-loop μ-loop
+unfolding size
+loop-holds c = search needs
+
+shared-slice-read-if1 : tie.Need-shared-slice-read-if1 Inv-loop μ-loop
+shared-slice-read-if1 c = search needs
+
+add-n : tie.Need-add-n Inv-loop μ-loop
+add-n c = search needs
+
+add-i : tie.Need-add-i Inv-loop μ-loop
+add-i c = search needs
+
+loop-less : tie.Need-loop-less Inv-loop μ-loop
+loop-less c = search needs
+
+loop-again : tie.Need-loop-again Inv-loop μ-loop
+loop-again c =
+    (search needs, ⊎-elim (λ w. w .1 ∙ search (needs, size-one)) (λ w. w .1 ∙ search (needs, size-other)) (c .if1 .came))
+
+returns : tie.Need-returns Inv-loop μ-loop
+returns c = search (needs, size-whole)
+
+pub size-spec : {M : Type 1} → statement M
+size-spec =
+    tie.close
+    (tie.spec
+    Inv-loop
+    μ-loop
+    loop-holds
+    shared-slice-read-if1
+    add-n
+    add-i
+    loop-less
+    loop-again
+    returns)

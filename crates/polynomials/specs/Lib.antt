@@ -1,0 +1,4 @@
+-- What the contracts about polynomials say. Definitions only: the laws about them are in proofs/.
+pub mod Polynomial
+pub mod CyclicCode
+pub mod Deriving
