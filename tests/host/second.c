@@ -211,6 +211,11 @@ int second_on_row(unsigned size, unsigned row, unsigned card)
     return on[size][row][card];
 }
 
+int second_is_part(unsigned size, unsigned row, unsigned tag)
+{
+    return parts[size][row][tag];
+}
+
 static void add(uint8_t *to, const uint8_t *from, unsigned last)
 {
     for (unsigned i = 1; i <= last; i++)

@@ -56,4 +56,7 @@ void second_cmac(const uint8_t key[16], const uint8_t *bytes, size_t len, uint8_
 void second_code(const uint8_t keys[48], unsigned number, const uint8_t *card, size_t len, uint8_t out[16]);
 int second_on_row(unsigned size, unsigned row, unsigned card);
 
+/* Whether the row of a tag is one of those whose XOR is a row. */
+int second_is_part(unsigned size, unsigned row, unsigned tag);
+
 #endif

@@ -1,0 +1,145 @@
+-- Any difference list, and any m but 0: the pattern that the check polynomial gives yields every row behind the first t, t being its degree, no shorter
+-- pattern yields any row, and the first t rows are independent.
+use mathlib.Core.Path.{_≡_, refl, sym, ap, ap₂, _∙_}
+use mathlib.Core.Bool.{Bool, true, false, _&&_, xor}
+use mathlib.Core.List.{List, [], _∷_, _++_, map}
+use Prim.Native.Nat.{ℕ, zero, suc, _+_, _-_, _%_, _≤_, _<_}
+use native.Mathlib.Nat.{add-mod-right, mod-eq-of-lt, zero-mod}
+use native.Mathlib.Omega.{arith}
+use lib.Dec.{eqb}
+use lib.ListN.{length, getD, take}
+use borrow.Author.Tests.{eq-eqb, ne-eqb}
+use Rattle.cipher.specs.Block.{if_then_else_}
+use Rattle.incidence.specs.Count.{listed}
+use Rattle.incidence.specs.Family.{parity}
+use Rattle.incidence.proofs.Listing.{listed-ext}
+use Rattle.plane.specs.Plane.{member, on}
+use Rattle.polynomials.specs.Polynomial.{size}
+use Rattle.polynomials.specs.CyclicCode.{ofList, generator, check, stepsBack, pattern}
+use Rattle.polynomials.proofs.Parity.{xor-none, xor-turn, xor-same, parity-ext, parity-map, parity-last}
+use Rattle.polynomials.proofs.Sizes.{size-most}
+use Rattle.polynomials.proofs.Acting.{act}
+use Rattle.polynomials.proofs.Lessening.{size-at, size-above}
+use Rattle.polynomials.proofs.Recurring.{act-highest}
+use Rattle.polynomials.proofs.Checking.{bezout, check-kills, check-size, generator-some}
+use Rattle.deriving.specs.Shortest.{Within, xorBack, Pattern, NoShorterPattern, NoShorterRow, Independent}
+use Rattle.deriving.proofs.Matrices.{fails-or, no-shorter-pattern-by, independent-by, listed-within, within-ext}
+use Rattle.deriving.proofs.Circulant.{turned, no-row}
+use Rattle.deriving.proofs.Reading.{atCard, atCard-period, shows, row-shows, row-on}
+
+-- a polynomial's first t terms, counted back from place x + t
+terms-back : (h : List ℕ) (t : ℕ) (f : ℕ → Bool) (x : ℕ) → t ≤ length h
+    → act (take t h) f x ≡ parity (λ k. f (x + t - k)) (listed (λ k. eqb (getD h (t - k) 0) 1) t)
+unfolding act parity
+terms-back h zero f x l = refl
+terms-back [] (suc t) f x l = absurd (omega arith)
+terms-back (c ∷ h) (suc t) f x l =
+    ap (xor (eqb c 1 && f x)) (terms-back h t f (suc x) (omega arith) ∙ parity-ext (λ k. f (suc x + t - k)) F (λ k. further k) rows)
+    ∙ first (eqb c 1)
+    ∙ ap₂ (λ (n : ℕ) (l : List ℕ). parity F (if eqb (getD (c ∷ h) n 0) 1 then l ++ (suc t ∷ []) else l)) none (sym same)
+  where
+    F : ℕ → Bool
+    F k = f (x + suc t - k)
+
+    rows : List ℕ
+    rows = listed (λ k. eqb (getD h (t - k) 0) 1) t
+
+    further : (k : ℕ) → f (suc x + t - k) ≡ F k
+    further k = let e : suc x + t - k ≡ x + suc t - k = omega arith in ap f e
+
+    none : 0 ≡ suc t - suc t
+    none = omega arith
+
+    same : listed (λ k. eqb (getD (c ∷ h) (suc t - k) 0) 1) t ≡ rows
+    same =
+        listed-ext (λ k. eqb (getD (c ∷ h) (suc t - k) 0) 1) (λ k. eqb (getD h (t - k) 0) 1) t
+        (λ k a b. let z : suc t - k ≡ suc (t - k) = omega arith in ap (λ (i : ℕ). eqb (getD (c ∷ h) i 0) 1) z)
+
+    first : (b : Bool) → xor (b && f x) (parity F rows) ≡ parity F (if b then rows ++ (suc t ∷ []) else rows)
+    first true =
+        let e : x ≡ x + suc t - suc t = omega arith in
+        xor-turn (f x) (parity F rows) ∙ ap (xor (parity F rows)) (ap f e) ∙ sym (parity-last F rows (suc t))
+    first false = xor-none (parity F rows)
+
+module _ (m : ℕ) (D : List ℕ) (some : 0 < m) where
+  -- the degree of the check polynomial
+  abbrev pub degree : ℕ
+  degree = size (check m D) - 1
+
+  has-degree : size (check m D) ≡ suc degree
+  has-degree = omega (arith, check-size m D some)
+
+  pub degree-most : degree ≤ m
+  degree-most = omega (arith, check-size m D some, generator-some m D some)
+
+  pub pattern-within : Within degree (pattern m D)
+  unfolding pattern stepsBack
+  pattern-within = listed-within (λ k. eqb (getD (check m D) (degree - k) 0) 1) degree
+
+  -- the row t on is the XOR of those that the steps lead back to
+  module _ (i j : ℕ) (li : degree < i) (ui : i ≤ m) (lj : 1 ≤ j) (uj : j ≤ m) where
+    -- card j along the rows
+    along : ℕ → Bool
+    along = act (ofList m D) (atCard m j)
+
+    row-recurs : along i ≡ parity (λ k. along (i - k)) (pattern m D)
+    unfolding pattern stepsBack along
+    row-recurs =
+        let z : i - degree + degree ≡ i = omega arith in
+        ap along (sym z)
+        ∙ sym (xor-same (act (take degree (check m D)) along (i - degree)) (along (i - degree + degree))
+        (sym (act-highest (check m D) degree along (i - degree) has-degree) ∙ check-kills m D some (atCard m j) (atCard-period m j) (i - degree)))
+        ∙ terms-back (check m D) degree along (i - degree) (omega (arith, size-most (check m D), has-degree))
+        ∙ parity-ext (λ k. along (i - degree + degree - k)) (λ k. along (i - k)) (λ k. ap (λ (n : ℕ). along (n - k)) z)
+        (listed (λ k. eqb (getD (check m D) (degree - k) 0) 1) degree)
+
+    yields-at : on m D i j ≡ xorBack (on m D) (pattern m D) i j
+    unfolding xorBack along
+    yields-at =
+        sym (row-on m D some i j (omega arith) ui lj uj)
+        ∙ row-recurs
+        ∙ within-ext (λ k. along (i - k)) (λ k. on m D (i - k) j) degree
+        (λ k a b. row-on m D some (i - k) j (omega arith) (omega arith) lj uj) (pattern m D) pattern-within
+        ∙ sym (parity-map (λ a. on m D a j) (λ k. i - k) (pattern m D))
+
+  pub pattern-yields : Pattern m (on m D) degree (pattern m D)
+  pattern-yields = record { within = pattern-within; yields = λ i l u j lj uj. yields-at i j l u lj uj }
+
+  -- ---- no shorter one
+
+  -- the turns of D that XOR to the generator polynomial (Bézout's identity), going on
+  turns : List ℕ
+  turns = map (λ u. m - u % m) (bezout m D some .turns)
+
+  generator-turned : size (generator m D) ≤ m → (n : ℕ) → n < m → turned m D turns n ≡ eqb (getD (generator m D) n 0) 1
+  unfolding turned turns
+  generator-turned s n l =
+      let y : n + (m - 0) ≡ n + m = omega arith in
+      let z : (n + (m - 0 % m)) % m ≡ n
+      = ap (λ (x : ℕ). (n + (m - x)) % m) (zero-mod m) ∙ ap (λ (x : ℕ). x % m) y ∙ add-mod-right n m ∙ mod-eq-of-lt l in
+      parity-map (λ u. member ((n + u) % m) D) (λ u. m - u % m) (bezout m D some .turns)
+      ∙ parity-ext (λ u. member ((n + (m - u % m)) % m) D) (λ u. act (ofList m D) (atCard m n) (0 + u))
+      (λ u. let e : 0 + u ≡ u = omega arith in sym (ap (act (ofList m D) (atCard m n)) e ∙ row-shows m D some n u)) (bezout m D some .turns)
+      ∙ sym (bezout m D some .says (atCard m n) (atCard-period m n) 0)
+      ∙ shows m some n 0 (generator m D) s
+      ∙ ap (λ (x : ℕ). eqb (getD (generator m D) x 0) 1) z
+
+  pub no-shorter-row : NoShorterRow m (on m D) degree
+  no-shorter-row t l Q w i li ui =
+      let e : size (check m D) ≡ suc (suc m - size (generator m D)) = check-size m D some in
+      let g : 0 < size (generator m D) = generator-some m D some in
+      let s : size (generator m D) ≤ m = omega arith in
+      let n : ℕ = size (generator m D) - 1 in
+      fails-or m (on m D) Q i
+      (no-row m D some turns n degree
+      (generator-turned s n (omega arith) ∙ eq-eqb _ 1 (size-at (generator m D) n (omega arith)))
+      (λ k a b.
+      generator-turned s (n + k) (omega arith)
+      ∙ ne-eqb _ 1 (size-above (generator m D) (size (generator m D)) (n + k) (omega arith) (omega arith)))
+      t l Q w i li ui)
+
+  pub no-shorter-pattern : NoShorterPattern m (on m D) degree
+  no-shorter-pattern = no-shorter-pattern-by m (on m D) degree degree-most no-shorter-row
+
+  pub independent : Independent m (on m D) degree
+  independent = independent-by m (on m D) degree degree-most no-shorter-row degree (omega arith)

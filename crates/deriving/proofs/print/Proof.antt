@@ -1,0 +1,21 @@
+-- The lines derived are those in use (Printing).
+use mathlib.Core.Path.{_≡_}
+use lib.ListN.{length}
+use denote.Ref.{now}
+use Rattle.deriving.proofs.Printing.{all-derived, all-in-use, all-counts}
+use borrow.Author.Needs.{needs}
+use Rattle.deriving.proofs.print.Statement.{statement}
+use Rattle.deriving.proofs.print.Tie as tie
+
+put-lines-requires : tie.Need-put-lines-requires
+put-lines-requires c κs = search needs
+
+returns : tie.Need-returns
+returns c =
+    let p = c .put-lines .ensures in
+    let out = now (c .before .before .args .out) in
+    let long : length (c .put-lines .last .0) ≡ length out = search needs in
+    (all-derived _ _ _ (p .0) (p .1), (all-in-use _ _ _ (p .0) (p .1), (p .1, all-counts _ _ _ (p .0) (p .1) long)))
+
+pub print-spec : {M : Type 1} → statement M
+print-spec = tie.close (tie.spec put-lines-requires returns)
