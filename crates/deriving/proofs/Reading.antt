@@ -7,17 +7,17 @@ use Prim.Native.Nat.{ℕ, zero, suc, _+_, _-_, _*_, _/_, _%_, _≤_, _<_}
 use native.Mathlib.Nat.{add-mod-right, mod-add-mod, mod-lt, mod-eq-of-lt, mod-self, div-add-mod', add-mul-mod-self-right}
 use native.Mathlib.Omega.{arith}
 use lib.Dec.{eqb, ltb}
-use lib.ListN.{length, getD, set, take, length-take}
+use lib.ListN.{getD, set, take}
 use lib.Seq.{getD-set-same, getD-set-other}
 use borrow.Author.Tests.{eqb-true, eqb-false, eq-eqb, ne-eqb, ltb-true, ltb-false}
-use Rattle.cipher.specs.Block.{if_then_else_, zeros}
+use Rattle.cipher.specs.Block.{if_then_else_}
 use Rattle.plane.specs.Plane.{member, on}
 use Rattle.plane.proofs.Cyclic.{on-inside}
 use Rattle.polynomials.specs.Polynomial.{size}
 use Rattle.polynomials.specs.CyclicCode.{ofList}
 use Rattle.polynomials.proofs.Parity.{xor-none, xor-turn}
 use Rattle.polynomials.proofs.Terms.{ofList-length}
-use Rattle.polynomials.proofs.Acting.{act, act-take, size-tail}
+use Rattle.polynomials.proofs.Acting.{act, act-take, size-tail, take-few, zeros-at}
 use Rattle.polynomials.proofs.Lessening.{size-by}
 use Rattle.polynomials.proofs.Recurring.{act-quiet}
 
@@ -34,14 +34,11 @@ act-single (a ∷ p) zero (suc n) f u l s here others =
     ∙ act-quiet (take n p) f (suc u)
     (λ k b.
     let e : suc u + k ≡ u + suc k = omega arith in
-    ap f e ∙ others (suc k) (omega (arith, few)) (λ q. omega arith)))
+    ap f e ∙ others (suc k) (omega (arith, take-few n p)) (λ q. omega arith)))
     ∙ xor-turn (eqb a 1 && true) false
     ∙ xor-none (eqb a 1 && true)
     ∙ and-true (eqb a 1)
   where
-    few : length (take n p) ≤ n
-    few = simp length-take (omega arith)
-
     and-true : (t : Bool) → t && true ≡ t
     and-true true = refl
     and-true false = refl
@@ -129,11 +126,6 @@ module _ (m : ℕ) (some : 0 < m) where
     shows p s = act-single p ahead m (atCard m j) u (mod-lt (j + (m - u % m)) some) s (eq-eqb _ (j % m) ahead-at) others
 
 -- ---- the coefficients of D(x)
-
-zeros-at : (n i : ℕ) → getD (zeros n) i 0 ≡ 0
-zeros-at zero i = refl
-zeros-at (suc n) zero = refl
-zeros-at (suc n) (suc i) = zeros-at n i
 
 list-at : (m : ℕ) (D : List ℕ) (c : ℕ) → c < m → eqb (getD (ofList m D) c 0) 1 ≡ member c D
 unfolding ofList

@@ -7,7 +7,7 @@ use Prim.Native.Nat.{ℕ, zero, suc, _+_, _≤_, _<_}
 use native.Mathlib.Omega.{arith}
 use lib.Dec.{eqb}
 use lib.Bits.{bitXor}
-use lib.ListN.{length, take}
+use lib.ListN.{length, getD, take, length-take}
 use Rattle.cipher.specs.Block.{_⊕_, zeros}
 use Rattle.incidence.specs.Count.{bit}
 use Rattle.polynomials.specs.Polynomial.{longer, size, raised}
@@ -80,6 +80,15 @@ unfolding act
 act-take zero p f x h = sym (act-none p f x h)
 act-take (suc n) [] f x h = refl
 act-take (suc n) (c ∷ p) f x h = ap (xor (eqb c 1 && f x)) (act-take n p f (suc x) (size-tail c n p h))
+
+-- the first n are at most n
+pub take-few : (n : ℕ) (p : List ℕ) → length (take n p) ≤ n
+take-few n p = simp length-take (omega arith)
+
+pub zeros-at : (n i : ℕ) → getD (zeros n) i 0 ≡ 0
+zeros-at zero i = refl
+zeros-at (suc n) zero = refl
+zeros-at (suc n) (suc i) = zeros-at n i
 
 pub act-zero : (n : ℕ) (f : ℕ → Bool) (x : ℕ) → act (zeros n) f x ≡ false
 unfolding act

@@ -18,7 +18,7 @@ use Rattle.polynomials.specs.Polynomial.{longer, size, raised, less, quo
 use Rattle.polynomials.proofs.Parity.{xor-none, xor-three, xor-turn, xor-self}
 use Rattle.polynomials.proofs.Sizes.{size-most}
 use Rattle.polynomials.proofs.Dividing.{quotient-goes}
-use Rattle.polynomials.proofs.Acting.{act, act-sum, act-raised}
+use Rattle.polynomials.proofs.Acting.{act, act-sum, act-raised, zeros-at}
 use Rattle.polynomials.proofs.Lessening.{Poly, poly-raised, poly-less, less-shorter}
 use Rattle.polynomials.proofs.Euclid.{or-neither}
 
@@ -168,8 +168,3 @@ module _ (w : ℕ) (q : List ℕ) (Q : Poly w q) (some : 0 < size q) where
   unfolding quotient
   quotient-divided p P =
       rw (P .long) (divided w q Q some (size p) (zeros w) p P (length-replicate w 0) (omega arith) (λ j a. zeros-at w j))
-    where
-      zeros-at : (n j : ℕ) → getD (zeros n) j 0 ≡ 0
-      zeros-at zero j = refl
-      zeros-at (suc n) zero = refl
-      zeros-at (suc n) (suc j) = zeros-at n j

@@ -6,12 +6,12 @@ use mathlib.Core.List.{List, [], _∷_}
 use Prim.Native.Nat.{ℕ, zero, suc, _+_, _-_, _≤_, _<_}
 use native.Mathlib.Omega.{arith}
 use lib.Dec.{eqb}
-use lib.ListN.{length, take, length-take}
+use lib.ListN.{length, take}
 use borrow.Author.Tests.{eq-eqb, ne-eqb}
 use Rattle.incidence.proofs.Counting.{bit-most}
 use Rattle.polynomials.specs.Polynomial.{longer, size}
 use Rattle.polynomials.proofs.Parity.{xor-none, xor-self, xor-three, xor-turn}
-use Rattle.polynomials.proofs.Acting.{act, act-none, size-tail}
+use Rattle.polynomials.proofs.Acting.{act, act-none, size-tail, take-few}
 use Rattle.polynomials.proofs.Lessening.{size-at}
 use Rattle.polynomials.proofs.Euclid.{Kills}
 
@@ -92,9 +92,8 @@ module _ (g : List ℕ) (n : ℕ) (degree : size g ≡ suc n) where
   unfolding grown
   recurring-killed x =
       let e : x + n ≡ n + x = omega arith in
-      let few : length (take n g) ≤ n = simp length-take (omega arith) in
       act-highest g n recurring x degree
-      ∙ ap₂ xor (act-ext (take n g) recurring (grown x) x (λ k l. is-grown x (x + k) (omega arith)))
+      ∙ ap₂ xor (act-ext (take n g) recurring (grown x) x (λ k l. is-grown x (x + k) (omega (arith, take-few n g))))
       (is-grown (suc x) (x + n) (omega arith)
       ∙ ap (λ (t : Bool). elim t [ true ↦ act (take n g) (grown x) x | false ↦ grown x (x + n) ]) (eq-eqb (x + n) (n + x) e))
       ∙ xor-self (act (take n g) (grown x) x)
@@ -115,9 +114,6 @@ module _ (g : List ℕ) (n : ℕ) (degree : size g ≡ suc n) where
           let z : suc (x + r) ≡ n = omega arith in
           absurd (true≢false (sym (
           act-highest p r recurring x e
-          ∙ ap₂ xor (act-quiet (take r p) recurring x (λ k l. first (x + k) (omega (arith, few r)) ∙ ne-eqb (suc (x + k)) n (λ q. omega (arith, few r))))
+          ∙ ap₂ xor (act-quiet (take r p) recurring x (λ k l. first (x + k) (omega (arith, take-few r p)) ∙ ne-eqb (suc (x + k)) n (λ q. omega (arith, take-few r p))))
           (first (x + r) (omega arith) ∙ eq-eqb (suc (x + r)) n z)
           ∙ xor-none true) ∙ k x))
-        where
-          few : (r : ℕ) → length (take r p) ≤ r
-          few r = simp length-take (omega arith)

@@ -44,7 +44,7 @@ fn add_raised(p: &mut [u8], q: &[u8], k: usize)
     }
 }
 
-// A step of Euclid's algorithm: what is left to do gives what it gave.
+// A step of Euclid's algorithm: n more steps give what n + 1 gave before it.
 fn lessen(p: &mut [u8], q: &mut [u8])
     requires { ⌜ length (now q) ≡ length (now p) ⌝ }
     ensures { λ _. ⌜ ((n : ℕ) → gcdIn n (now (p .exit)) (now (q .exit)) ≡ gcdIn (suc n) (now (p .entry)) (now (q .entry))) ⌝ }
