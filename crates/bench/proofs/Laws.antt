@@ -14,7 +14,7 @@ use Rattle.cipher.specs.Cmac.{cmac}
 use Rattle.cipher.specs.Block.{slot, listOf}
 use Rattle.cipher.proofs.Slots.{Front, front-next, front-done, slot-length, listOf-length, second-walk}
 use Rattle.cipher.proofs.Laws.{with-length, inv-with-length}
-use Rattle.bench.specs.Lent.{fits, answer, eachBlock, onto, written}
+use Rattle.bench.specs.Lent.{roomFor, worked, eachBlock, onto, written}
 
 -- ---- each block of s through f
 
@@ -70,33 +70,33 @@ both-right : (a b : Bool) → a && b ≡ true → b ≡ true
 both-right true b h = h
 both-right false b h = absurd (false≢true h)
 
-key-fits : (key : List ℕ) (n : ℕ) (out : List ℕ) (t : Bool) → t ≡ fits key n out → t ≡ true → length key ≡ 16
-unfolding fits
+key-fits : (key : List ℕ) (n : ℕ) (out : List ℕ) (t : Bool) → t ≡ roomFor key n out → t ≡ true → length key ≡ 16
+unfolding roomFor
 key-fits key n out t e h = eqb-true (length key) 16 (both-left (eqb (length key) 16) (leb n (length out)) (sym e ∙ h))
 
-pub key-room : (key : List ℕ) (n : ℕ) (out : List ℕ) (t : Bool) → t ≡ fits key n out → t ≡ true → 0 + 16 ≤ length key
+pub key-room : (key : List ℕ) (n : ℕ) (out : List ℕ) (t : Bool) → t ≡ roomFor key n out → t ≡ true → 0 + 16 ≤ length key
 key-room key n out t e h = omega (arith, key-fits key n out t e h)
 
-pub room-fits : (key : List ℕ) (n : ℕ) (out : List ℕ) (t : Bool) → t ≡ fits key n out → t ≡ true → n ≤ length out
-unfolding fits
+pub room-fits : (key : List ℕ) (n : ℕ) (out : List ℕ) (t : Bool) → t ≡ roomFor key n out → t ≡ true → n ≤ length out
+unfolding roomFor
 room-fits key n out t e h = leb-true n (length out) (both-right (eqb (length key) 16) (leb n (length out)) (sym e ∙ h))
 
 -- what a call answers and leaves, by that test
-pub refused-answer : (key : List ℕ) (n : ℕ) (out : List ℕ) (t : Bool) → t ≡ fits key n out → t ≡ false → 0 ≡ answer (fits key n out)
-unfolding answer
+pub refused-answer : (key : List ℕ) (n : ℕ) (out : List ℕ) (t : Bool) → t ≡ roomFor key n out → t ≡ false → 0 ≡ worked (roomFor key n out)
+unfolding worked
 refused-answer key n out t e h = rw (← e, h) refl
 
-pub refused-lent : (key : List ℕ) (n : ℕ) (out bytes : List ℕ) (t : Bool) → t ≡ fits key n out → t ≡ false
-    → out ≡ written (fits key n out) out bytes
+pub refused-lent : (key : List ℕ) (n : ℕ) (out bytes : List ℕ) (t : Bool) → t ≡ roomFor key n out → t ≡ false
+    → out ≡ written (roomFor key n out) out bytes
 unfolding written
 refused-lent key n out bytes t e h = rw (← e, h) refl
 
-pub done-answer : (key : List ℕ) (n : ℕ) (out : List ℕ) (t : Bool) → t ≡ fits key n out → t ≡ true → 1 ≡ answer (fits key n out)
-unfolding answer
+pub done-answer : (key : List ℕ) (n : ℕ) (out : List ℕ) (t : Bool) → t ≡ roomFor key n out → t ≡ true → 1 ≡ worked (roomFor key n out)
+unfolding worked
 done-answer key n out t e h = rw (← e, h) refl
 
-done-lent : (key : List ℕ) (n : ℕ) (out bytes out′ : List ℕ) (t : Bool) → t ≡ fits key n out → t ≡ true → out′ ≡ onto out bytes
-    → out′ ≡ written (fits key n out) out bytes
+done-lent : (key : List ℕ) (n : ℕ) (out bytes out′ : List ℕ) (t : Bool) → t ≡ roomFor key n out → t ≡ true → out′ ≡ onto out bytes
+    → out′ ≡ written (roomFor key n out) out bytes
 unfolding written
 done-lent key n out bytes out′ t e h f = rw (← e, h) f
 
@@ -104,40 +104,40 @@ done-lent key n out bytes out′ t e h f = rw (← e, h) f
 whole : (key k : List ℕ) → length key ≡ 16 → k ≡ take 16 (drop 0 key) → k ≡ key
 whole key k l e = e ∙ take-all 16 key (omega arith)
 
-schedule-is : (key k w out : List ℕ) (n : ℕ) (t : Bool) → t ≡ fits key n out → t ≡ true → k ≡ take 16 (drop 0 key) → w ≡ keyExpansion k
+schedule-is : (key k w out : List ℕ) (n : ℕ) (t : Bool) → t ≡ roomFor key n out → t ≡ true → k ≡ take 16 (drop 0 key) → w ≡ keyExpansion k
     → w ≡ keyExpansion key
 schedule-is key k w out n t e h ek ew = ew ∙ ap keyExpansion (whole key k (key-fits key n out t e h) ek)
 
 -- one block
-block-lent : (key out bytes r out′ : List ℕ) (t : Bool) → t ≡ fits key 16 out → t ≡ true → r ≡ bytes → length r ≡ 16 → out′ ≡ r ++ drop 16 out
-    → out′ ≡ written (fits key 16 out) out bytes
+block-lent : (key out bytes r out′ : List ℕ) (t : Bool) → t ≡ roomFor key 16 out → t ≡ true → r ≡ bytes → length r ≡ 16 → out′ ≡ r ++ drop 16 out
+    → out′ ≡ written (roomFor key 16 out) out bytes
 unfolding onto
 block-lent key out bytes r out′ t e h same l f = done-lent key 16 out bytes out′ t e h (rw (← same, l) f)
 
-pub mac-lent : (key m out k r out′ : List ℕ) (t : Bool) → t ≡ fits key 16 out → t ≡ true → k ≡ take 16 (drop 0 key) → r ≡ cmac k m
+pub mac-lent : (key m out k r out′ : List ℕ) (t : Bool) → t ≡ roomFor key 16 out → t ≡ true → k ≡ take 16 (drop 0 key) → r ≡ cmac k m
     → length r ≡ 16 → out′ ≡ r ++ drop 16 out
-    → out′ ≡ written (fits key 16 out) out (cmac key m)
+    → out′ ≡ written (roomFor key 16 out) out (cmac key m)
 mac-lent key m out k r out′ t e h ek er l f =
     block-lent key out (cmac key m) r out′ t e h (er ∙ ap (λ (x : List ℕ). cmac x m) (whole key k (key-fits key 16 out t e h) ek)) l f
 
-pub setup-lent : (key out k w b r out′ : List ℕ) (t : Bool) → t ≡ fits key 16 out → t ≡ true → k ≡ take 16 (drop 0 key) → w ≡ keyExpansion k
+pub setup-lent : (key out k w b r out′ : List ℕ) (t : Bool) → t ≡ roomFor key 16 out → t ≡ true → k ≡ take 16 (drop 0 key) → w ≡ keyExpansion k
     → b ≡ take 16 (drop 0 out) → r ≡ cipher w b → length r ≡ 16 → out′ ≡ r ++ drop 16 out
-    → out′ ≡ written (fits key 16 out) out (encipher key (take 16 out))
+    → out′ ≡ written (roomFor key 16 out) out (encipher key (take 16 out))
 unfolding encipher
 setup-lent key out k w b r out′ t e h ek ew eb er l f =
     block-lent key out (encipher key (take 16 out)) r out′ t e h (er ∙ ap₂ cipher (schedule-is key k w out 16 t e h ek ew) eb) l f
 
 -- every block
-pub encipher-lent : (key input out k w out′ : List ℕ) (n : ℕ) (t : Bool) → t ≡ fits key n out → t ≡ true → k ≡ take 16 (drop 0 key)
+pub encipher-lent : (key input out k w out′ : List ℕ) (n : ℕ) (t : Bool) → t ≡ roomFor key n out → t ≡ true → k ≡ take 16 (drop 0 key)
     → w ≡ keyExpansion k → out′ ≡ onto out (eachBlock (cipher w) input)
-    → out′ ≡ written (fits key n out) out (eachBlock (encipher key) input)
+    → out′ ≡ written (roomFor key n out) out (eachBlock (encipher key) input)
 unfolding encipher
 encipher-lent key input out k w out′ n t e h ek ew f =
     done-lent key n out (eachBlock (encipher key) input) out′ t e h (f ∙ ap (λ (x : List ℕ). onto out (eachBlock (cipher x) input)) (schedule-is key k w out n t e h ek ew))
 
-pub decipher-lent : (key input out k w out′ : List ℕ) (n : ℕ) (t : Bool) → t ≡ fits key n out → t ≡ true → k ≡ take 16 (drop 0 key)
+pub decipher-lent : (key input out k w out′ : List ℕ) (n : ℕ) (t : Bool) → t ≡ roomFor key n out → t ≡ true → k ≡ take 16 (drop 0 key)
     → w ≡ keyExpansion k → out′ ≡ onto out (eachBlock (invCipher w) input)
-    → out′ ≡ written (fits key n out) out (eachBlock (decipher key) input)
+    → out′ ≡ written (roomFor key n out) out (eachBlock (decipher key) input)
 unfolding decipher
 decipher-lent key input out k w out′ n t e h ek ew f =
     done-lent key n out (eachBlock (decipher key) input) out′ t e h (f ∙ ap (λ (x : List ℕ). onto out (eachBlock (invCipher x) input)) (schedule-is key k w out n t e h ek ew))

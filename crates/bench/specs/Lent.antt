@@ -7,12 +7,12 @@ use lib.ListN.{length, drop}
 use Rattle.cipher.specs.Block.{slot, listOf}
 
 -- a key of 16 bytes, and room for n bytes
-unfoldable pub fits : List ℕ → ℕ → List ℕ → Bool
-fits key n out = eqb (length key) 16 && leb n (length out)
+unfoldable pub roomFor : List ℕ → ℕ → List ℕ → Bool
+roomFor key n out = eqb (length key) 16 && leb n (length out)
 
 -- 1 for a call that did its work, 0 for one that did nothing
-unfoldable pub answer : Bool → ℕ
-answer fitting = cond fitting 1 0
+unfoldable pub worked : Bool → ℕ
+worked fitting = cond fitting 1 0
 
 -- every whole block of s through f
 unfoldable pub eachBlock : (List ℕ → List ℕ) → List ℕ → List ℕ

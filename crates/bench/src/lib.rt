@@ -12,7 +12,7 @@ ghost use Prim.Native.Nat.{_≤_};
 ghost use lib.ListN.{length, take};
 ghost use Rattle.cipher.specs.Aes.{cipher, invCipher, encipher, decipher};
 ghost use Rattle.cipher.specs.Cmac.{cmac};
-ghost use Rattle.bench.specs.Lent.{fits, answer, eachBlock, onto, written};
+ghost use Rattle.bench.specs.Lent.{roomFor, worked, eachBlock, onto, written};
 
 // Enciphers each block of input into out: copied, then all in place.
 fn encipher_blocks(w: [u8; 176], input: &[u8], out: &mut [u8])
@@ -66,7 +66,7 @@ fn plain_decipher_blocks(w: [u8; 176], input: &[u8], out: &mut [u8])
 
 // Whether the key has 16 bytes, and out room for n.
 fn fits(key: &[u8], n: usize, out: &[u8]) -> bool
-    ensures { λ r. ⌜ r ≡ fits (now (key .entry)) n (now (out .entry)) ⌝ }
+    ensures { λ r. ⌜ r ≡ roomFor (now (key .entry)) n (now (out .entry)) ⌝ }
 {
     key.len() == 16 && n <= out.len()
 }
@@ -74,8 +74,8 @@ fn fits(key: &[u8], n: usize, out: &[u8]) -> bool
 // CMAC of a message. out has room for 16 bytes.
 #[no_mangle]
 pub extern "C" fn bench_cmac(key: &[u8], message: &[u8], out: &mut [u8]) -> u64
-    ensures answer { λ r. ⌜ r ≡ answer (fits (now (key .entry)) 16 (now (out .entry))) ⌝ }
-    ensures lent { λ _. ⌜ now (out .exit) ≡ written (fits (now (key .entry)) 16 (now (out .entry))) (now (out .entry)) (cmac (now (key .entry)) (now (message .entry))) ⌝ }
+    ensures answer { λ r. ⌜ r ≡ worked (roomFor (now (key .entry)) 16 (now (out .entry))) ⌝ }
+    ensures lent { λ _. ⌜ now (out .exit) ≡ written (roomFor (now (key .entry)) 16 (now (out .entry))) (now (out .entry)) (cmac (now (key .entry)) (now (message .entry))) ⌝ }
 {
     if fits(key, 16, out) {
         put(out, cmac::cmac(block_at(key, 0), message));
@@ -87,8 +87,8 @@ pub extern "C" fn bench_cmac(key: &[u8], message: &[u8], out: &mut [u8]) -> u64
 // Enciphers every whole block of the input, the key expanded once. out has room for the input.
 #[no_mangle]
 pub extern "C" fn bench_encipher(key: &[u8], input: &[u8], out: &mut [u8]) -> u64
-    ensures answer { λ r. ⌜ r ≡ answer (fits (now (key .entry)) (length (now (input .entry))) (now (out .entry))) ⌝ }
-    ensures lent { λ _. ⌜ now (out .exit) ≡ written (fits (now (key .entry)) (length (now (input .entry))) (now (out .entry))) (now (out .entry)) (eachBlock (encipher (now (key .entry))) (now (input .entry))) ⌝ }
+    ensures answer { λ r. ⌜ r ≡ worked (roomFor (now (key .entry)) (length (now (input .entry))) (now (out .entry))) ⌝ }
+    ensures lent { λ _. ⌜ now (out .exit) ≡ written (roomFor (now (key .entry)) (length (now (input .entry))) (now (out .entry))) (now (out .entry)) (eachBlock (encipher (now (key .entry))) (now (input .entry))) ⌝ }
 {
     if fits(key, input.len(), out) {
         encipher_blocks(aes::key_expansion(block_at(key, 0)), input, out);
@@ -100,8 +100,8 @@ pub extern "C" fn bench_encipher(key: &[u8], input: &[u8], out: &mut [u8]) -> u6
 // Deciphers every whole block of the input, the key expanded once. out has room for the input.
 #[no_mangle]
 pub extern "C" fn bench_decipher(key: &[u8], input: &[u8], out: &mut [u8]) -> u64
-    ensures answer { λ r. ⌜ r ≡ answer (fits (now (key .entry)) (length (now (input .entry))) (now (out .entry))) ⌝ }
-    ensures lent { λ _. ⌜ now (out .exit) ≡ written (fits (now (key .entry)) (length (now (input .entry))) (now (out .entry))) (now (out .entry)) (eachBlock (decipher (now (key .entry))) (now (input .entry))) ⌝ }
+    ensures answer { λ r. ⌜ r ≡ worked (roomFor (now (key .entry)) (length (now (input .entry))) (now (out .entry))) ⌝ }
+    ensures lent { λ _. ⌜ now (out .exit) ≡ written (roomFor (now (key .entry)) (length (now (input .entry))) (now (out .entry))) (now (out .entry)) (eachBlock (decipher (now (key .entry))) (now (input .entry))) ⌝ }
 {
     if fits(key, input.len(), out) {
         decipher_blocks(aes::key_expansion(block_at(key, 0)), input, out);
@@ -113,8 +113,8 @@ pub extern "C" fn bench_decipher(key: &[u8], input: &[u8], out: &mut [u8]) -> u6
 // Enciphers every whole block of the input, the key expanded once, by the plain engine. out has room for the input.
 #[no_mangle]
 pub extern "C" fn bench_plain_encipher(key: &[u8], input: &[u8], out: &mut [u8]) -> u64
-    ensures answer { λ r. ⌜ r ≡ answer (fits (now (key .entry)) (length (now (input .entry))) (now (out .entry))) ⌝ }
-    ensures lent { λ _. ⌜ now (out .exit) ≡ written (fits (now (key .entry)) (length (now (input .entry))) (now (out .entry))) (now (out .entry)) (eachBlock (encipher (now (key .entry))) (now (input .entry))) ⌝ }
+    ensures answer { λ r. ⌜ r ≡ worked (roomFor (now (key .entry)) (length (now (input .entry))) (now (out .entry))) ⌝ }
+    ensures lent { λ _. ⌜ now (out .exit) ≡ written (roomFor (now (key .entry)) (length (now (input .entry))) (now (out .entry))) (now (out .entry)) (eachBlock (encipher (now (key .entry))) (now (input .entry))) ⌝ }
 {
     if fits(key, input.len(), out) {
         plain_encipher_blocks(aes::key_expansion(block_at(key, 0)), input, out);
@@ -126,8 +126,8 @@ pub extern "C" fn bench_plain_encipher(key: &[u8], input: &[u8], out: &mut [u8])
 // Deciphers every whole block of the input, the key expanded once, by the plain engine. out has room for the input.
 #[no_mangle]
 pub extern "C" fn bench_plain_decipher(key: &[u8], input: &[u8], out: &mut [u8]) -> u64
-    ensures answer { λ r. ⌜ r ≡ answer (fits (now (key .entry)) (length (now (input .entry))) (now (out .entry))) ⌝ }
-    ensures lent { λ _. ⌜ now (out .exit) ≡ written (fits (now (key .entry)) (length (now (input .entry))) (now (out .entry))) (now (out .entry)) (eachBlock (decipher (now (key .entry))) (now (input .entry))) ⌝ }
+    ensures answer { λ r. ⌜ r ≡ worked (roomFor (now (key .entry)) (length (now (input .entry))) (now (out .entry))) ⌝ }
+    ensures lent { λ _. ⌜ now (out .exit) ≡ written (roomFor (now (key .entry)) (length (now (input .entry))) (now (out .entry))) (now (out .entry)) (eachBlock (decipher (now (key .entry))) (now (input .entry))) ⌝ }
 {
     if fits(key, input.len(), out) {
         plain_decipher_blocks(aes::key_expansion(block_at(key, 0)), input, out);
@@ -139,8 +139,8 @@ pub extern "C" fn bench_plain_decipher(key: &[u8], input: &[u8], out: &mut [u8])
 // Expands the key and enciphers the block at the front of out.
 #[no_mangle]
 pub extern "C" fn bench_setup(key: &[u8], out: &mut [u8]) -> u64
-    ensures answer { λ r. ⌜ r ≡ answer (fits (now (key .entry)) 16 (now (out .entry))) ⌝ }
-    ensures lent { λ _. ⌜ now (out .exit) ≡ written (fits (now (key .entry)) 16 (now (out .entry))) (now (out .entry)) (encipher (now (key .entry)) (take 16 (now (out .entry)))) ⌝ }
+    ensures answer { λ r. ⌜ r ≡ worked (roomFor (now (key .entry)) 16 (now (out .entry))) ⌝ }
+    ensures lent { λ _. ⌜ now (out .exit) ≡ written (roomFor (now (key .entry)) 16 (now (out .entry))) (now (out .entry)) (encipher (now (key .entry)) (take 16 (now (out .entry)))) ⌝ }
 {
     if fits(key, 16, out) {
         let w = aes::key_expansion(block_at(key, 0));
@@ -154,8 +154,8 @@ pub extern "C" fn bench_setup(key: &[u8], out: &mut [u8]) -> u64
 // Expands the key and enciphers the block at the front of out by the plain engine.
 #[no_mangle]
 pub extern "C" fn bench_plain_setup(key: &[u8], out: &mut [u8]) -> u64
-    ensures answer { λ r. ⌜ r ≡ answer (fits (now (key .entry)) 16 (now (out .entry))) ⌝ }
-    ensures lent { λ _. ⌜ now (out .exit) ≡ written (fits (now (key .entry)) 16 (now (out .entry))) (now (out .entry)) (encipher (now (key .entry)) (take 16 (now (out .entry)))) ⌝ }
+    ensures answer { λ r. ⌜ r ≡ worked (roomFor (now (key .entry)) 16 (now (out .entry))) ⌝ }
+    ensures lent { λ _. ⌜ now (out .exit) ≡ written (roomFor (now (key .entry)) 16 (now (out .entry))) (now (out .entry)) (encipher (now (key .entry)) (take 16 (now (out .entry)))) ⌝ }
 {
     if fits(key, 16, out) {
         let w = aes::key_expansion(block_at(key, 0));

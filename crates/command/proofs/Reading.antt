@@ -14,7 +14,7 @@ use Rattle.files.proofs.Passing.{and-left, and-right, and-true, and-false-l, an
 use Rattle.printing.specs.Text.{decimal}
 use Rattle.printing.proofs.Decimals.{before, decimal-last}
 use Rattle.command.specs.declared.numbers.Parsed.{Parsed}
-use Rattle.command.specs.Numbers.{isDigit, digitsOnly, withDigit, withDigits, isNumber, numberIn}
+use Rattle.command.specs.Numbers.{isDigit, digitsOnly, withDigit, withDigits, isNumber, parsedNumber}
 
 abbrev none : Parsed
 none = record { ok = false; value = 0 }
@@ -109,19 +109,19 @@ unfolding withDigits withDigit
 grows v [] = omega arith
 grows v (b ∷ s) = let h = grows (10 * v + (b - 48)) s in omega (arith, h)
 
-no-number : (s : List ℕ) → isNumber s ≡ false → none ≡ numberIn s
-unfolding numberIn
+no-number : (s : List ℕ) → isNumber s ≡ false → none ≡ parsedNumber s
+unfolding parsedNumber
 no-number s e = sym (ap (λ (t : Bool). if t then record { ok = true; value = withDigits 0 s } else none) e)
 
 pub reading-stops : (s : List ℕ) (v i : ℕ) → Reading s v i → i < length s → (t : Bool)
-    → t ≡ (isDigit (getD s i 0) && ltb (withDigit v (getD s i 0)) (2 ^ 64)) → t ≡ false → none ≡ numberIn s
+    → t ≡ (isDigit (getD s i 0) && ltb (withDigit v (getD s i 0)) (2 ^ 64)) → t ≡ false → none ≡ parsedNumber s
 unfolding isNumber
 reading-stops s v i so more t e n = go (isDigit (getD s i 0)) refl
   where
     d : ℕ
     d = getD s i 0
 
-    go : (q : Bool) → isDigit d ≡ q → none ≡ numberIn s
+    go : (q : Bool) → isDigit d ≡ q → none ≡ parsedNumber s
     go false z =
         let f : digitsOnly s ≡ false = digits-here s v i so more ∙ and-false-l _ _ z in
         no-number s (and-false-l _ _ (and-false-r (ltb 0 (length s)) _ f))
@@ -133,8 +133,8 @@ reading-stops s v i so more t e n = go (isDigit (getD s i 0)) refl
         no-number s (and-false-r (ltb 0 (length s) && digitsOnly s) _ (le-ltb (withDigits 0 s) (2 ^ 64) m))
 
 -- all is read
-pub reading-done : (s : List ℕ) (v i : ℕ) → Reading s v i → length s ≤ i → record { ok = ltb 0 i; value = v } ≡ numberIn s
-unfolding numberIn isNumber digitsOnly withDigits
+pub reading-done : (s : List ℕ) (v i : ℕ) → Reading s v i → length s ≤ i → record { ok = ltb 0 i; value = v } ≡ parsedNumber s
+unfolding parsedNumber isNumber digitsOnly withDigits
 reading-done s v i so h =
     let e : i ≡ length s = omega (arith, so .inside) in
     let z : drop i s ≡ [] = drop-of-length-le s {i = i} h in
@@ -144,7 +144,7 @@ reading-done s v i so h =
     go s v i so e n d b (ltb 0 i) refl
   where
     go : (s : List ℕ) (v i : ℕ) → Reading s v i → i ≡ length s → withDigits 0 s ≡ v → digitsOnly s ≡ true
-        → ltb (withDigits 0 s) (2 ^ 64) ≡ true → (t : Bool) → ltb 0 i ≡ t → record { ok = t; value = v } ≡ numberIn s
+        → ltb (withDigits 0 s) (2 ^ 64) ≡ true → (t : Bool) → ltb 0 i ≡ t → record { ok = t; value = v } ≡ parsedNumber s
     go s v i so e n d b true q =
         let l : ltb 0 (length s) ≡ true = ap (ltb 0) (sym e) ∙ q in
         let a : isNumber s ≡ true = and-true _ _ (and-true _ _ l d) b in
@@ -199,8 +199,8 @@ decimal-some : (n : ℕ) → 0 < length (decimal n)
 decimal-some n = omega (arith, ap length (decimal-last n) ∙ length-append (before (n / 10)) ((48 + n % 10) ∷ []))
 
 -- number_in reads what put_decimal puts
-pub number-of-decimal : (n : ℕ) → n < 2 ^ 64 → numberIn (decimal n) ≡ record { ok = true; value = n }
-unfolding numberIn isNumber
+pub number-of-decimal : (n : ℕ) → n < 2 ^ 64 → parsedNumber (decimal n) ≡ record { ok = true; value = n }
+unfolding parsedNumber isNumber
 number-of-decimal n h =
     let w = writes (suc n) n (omega arith) in
     let l : ltb 0 (length (decimal n)) ≡ true = lt-ltb 0 (length (decimal n)) (decimal-some n) in

@@ -31,5 +31,5 @@ unfoldable pub isNumber : List ℕ → Bool
 isNumber text = (ltb 0 (length text) && digitsOnly text) && ltb (withDigits 0 text) (2 ^ 64)
 
 -- the number that a text writes, or that it writes none: then the value is 0
-unfoldable pub numberIn : List ℕ → Parsed
-numberIn text = if isNumber text then record { ok = true; value = withDigits 0 text } else record { ok = false; value = 0 }
+unfoldable pub parsedNumber : List ℕ → Parsed
+parsedNumber text = if isNumber text then record { ok = true; value = withDigits 0 text } else record { ok = false; value = 0 }

@@ -3,7 +3,7 @@ ghost use mathlib.Core.Path.{_≡_};
 ghost use mathlib.Core.Bool.{_&&_};
 ghost use Prim.Native.Nat.{_+_, _-_, _*_, _^_, _≤_, _<_};
 ghost use lib.Dec.{ltb};
-ghost use Rattle.command.specs.Numbers.{isDigit, withDigit, numberIn};
+ghost use Rattle.command.specs.Numbers.{isDigit, withDigit, parsedNumber};
 
 // A number that a text writes, or that it writes none: the value is 0 then.
 pub struct Parsed {
@@ -34,7 +34,7 @@ fn with_digit(v: u64, b: u8) -> u64
 
 // The number that a text writes: decimal digits, at least one, and nothing else, of a value below 2^64.
 pub fn number_in(text: &[u8]) -> Parsed
-    ensures { λ r. ⌜ r ≡ numberIn (now (text .entry)) ⌝ }
+    ensures { λ r. ⌜ r ≡ parsedNumber (now (text .entry)) ⌝ }
 {
     let mut value = 0;
     let mut i = 0;

@@ -10,11 +10,11 @@ use lib.ListN.{length, getD, set, take, drop, length-set, take-append-drop}
 use lib.Seq.{take-suc, drop-drop, getD-set-same, getD-set-other, drop-set-lt}
 use borrow.Author.Tests.{eqb-true, eqb-false, ne-eqb}
 use Rattle.cipher.specs.Block.{if_then_else_}
-use Rattle.incidence.specs.Count.{bit, count, any}
+use Rattle.incidence.specs.Count.{indicator, countUpTo, anyUpTo}
 use Rattle.incidence.specs.Family.{Family}
-use Rattle.incidence.specs.Report.{cleared, named, numberNamed, disagreeing, holdsNamed, unexplained, answerBy, answer}
+use Rattle.incidence.specs.Report.{cleared, named, numberNamed, disagreeing, holdsNamed, someUnexplained, answerBy, answer}
 use Rattle.incidence.proofs.Counting.{count-ext, any-ext}
-use Rattle.decoding.specs.Decoding.{marksOf, markIn, Marked, Cleared, isMarked, holdsMarked, strays}
+use Rattle.decoding.specs.Decoding.{marksOf, markIn, Marked, Cleared, isMarked, holdsMarked, unexplainedIn}
 
 -- ---- one mark is written
 
@@ -101,7 +101,7 @@ cleared-both p q n a b c P Q = record {
 -- ---- all items are marked, then those that an agreeing row holds are cleared
 
 module _ (F : Family) (agrees : ℕ → Bool) {n : ℕ} {a b c : List ℕ} (all : Marked n (λ j. 1) a b) (C : Cleared (cleared F agrees (F .rows)) n b c) where
-  pub named-marked : Marked n (λ j. bit (named F agrees j)) a c
+  pub named-marked : Marked n (λ j. indicator (named F agrees j)) a c
   unfolding named
   named-marked = record {
     size = C .size ∙ all .size;
@@ -109,7 +109,7 @@ module _ (F : Family) (agrees : ℕ → Bool) {n : ℕ} {a b c : List ℕ} (all 
     rest = C .rest ∙ all .rest;
   }
     where
-      go : (t : Bool) (x : ℕ) → x ≡ 1 → (if t then 0 else x) ≡ bit (not t)
+      go : (t : Bool) (x : ℕ) → x ≡ 1 → (if t then 0 else x) ≡ indicator (not t)
       go true x e = refl
       go false x e = e
 
@@ -117,11 +117,11 @@ module _ (F : Family) (agrees : ℕ → Bool) {n : ℕ} {a b c : List ℕ} (all 
   unfolding isMarked
   marked-named j l u = ap (λ (x : ℕ). not (eqb x 0)) (named-marked .marks j l u) ∙ go (named F agrees j)
     where
-      go : (t : Bool) → not (eqb (bit t) 0) ≡ t
+      go : (t : Bool) → not (eqb (indicator t) 0) ≡ t
       go true = refl
       go false = refl
 
-  pub count-is : count (isMarked c) n ≡ numberNamed F agrees n
+  pub count-is : countUpTo (isMarked c) n ≡ numberNamed F agrees n
   unfolding numberNamed
   count-is = count-ext (isMarked c) (named F agrees) n marked-named
 
@@ -129,27 +129,27 @@ module _ (F : Family) (agrees : ℕ → Bool) {n : ℕ} {a b c : List ℕ} (all 
   unfolding holdsMarked holdsNamed
   holds-is i = any-ext _ _ n (λ j l u. ap (λ (t : Bool). F .on i j && t) (marked-named j l u))
 
-  pub stray-is : any (strays F agrees c n) (F .rows) ≡ unexplained F agrees n (F .rows)
-  unfolding strays unexplained
-  stray-is = any-ext _ _ (F .rows) (λ i l u. ap (λ (t : Bool). not (agrees i) && not t) (holds-is i))
+  pub unexplained-is : anyUpTo (unexplainedIn F agrees c n) (F .rows) ≡ someUnexplained F agrees n (F .rows)
+  unfolding unexplainedIn someUnexplained
+  unexplained-is = any-ext _ _ (F .rows) (λ i l u. ap (λ (t : Bool). not (agrees i) && not t) (holds-is i))
 
 -- what is counted and found decides the answer
-pub answer-is : (F : Family) (agrees : ℕ → Bool) (n d rows names : ℕ) (stray : Bool) → d ≡ F .limit → rows ≡ disagreeing agrees (F .rows)
-    → names ≡ numberNamed F agrees n → stray ≡ unexplained F agrees n (F .rows) → answerBy d rows names stray ≡ answer F agrees n
+pub answer-is : (F : Family) (agrees : ℕ → Bool) (n d rows names : ℕ) (found : Bool) → d ≡ F .limit → rows ≡ disagreeing agrees (F .rows)
+    → names ≡ numberNamed F agrees n → found ≡ someUnexplained F agrees n (F .rows) → answerBy d rows names found ≡ answer F agrees n
 unfolding answer
-answer-is F agrees n d rows names stray p q r s = rw (p, q, r, s)
+answer-is F agrees n d rows names found p q r s = rw (p, q, r, s)
 
 -- marks that are known are a list
-module _ (p : ℕ → Bool) (n : ℕ) (before after : List ℕ) (M : Marked n (λ j. bit (p j)) before after) (fits : n ≤ length before) where
+module _ (p : ℕ → Bool) (n : ℕ) (before after : List ℕ) (M : Marked n (λ j. indicator (p j)) before after) (fits : n ≤ length before) where
   front : (k : ℕ) → k ≤ n → take k after ≡ marksOf p k
   unfolding marksOf markIn
   front zero h = refl
   front (suc k) h = go (front k (omega arith))
     where
-      last : getD after k 0 ≡ bit (p (suc k))
+      last : getD after k 0 ≡ indicator (p (suc k))
       last = let e : k ≡ suc k - 1 = omega arith in ap (λ (m : ℕ). getD after m 0) e ∙ M .marks (suc k) (omega arith) h
 
-      go : take k after ≡ marksOf p k → take (suc k) after ≡ marksOf p k ++ (bit (p (suc k)) ∷ [])
+      go : take k after ≡ marksOf p k → take (suc k) after ≡ marksOf p k ++ (indicator (p (suc k)) ∷ [])
       go ih =
           take-suc after k 0 (omega (arith, M .size))
           ∙ ap (λ (t : List ℕ). t ++ (getD after k 0 ∷ [])) ih ∙ ap (λ (x : ℕ). marksOf p k ++ (x ∷ [])) last

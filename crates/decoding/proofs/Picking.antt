@@ -9,7 +9,7 @@ use native.Mathlib.Numerals.{add-one}
 use lib.Dec.{eqb, leb}
 use lib.ListN.{length, getD}
 use borrow.Author.Tests.{eqb-true, eq-eqb, ne-eqb, leb-true, le-leb}
-use Rattle.incidence.specs.Count.{bit, count, any}
+use Rattle.incidence.specs.Count.{indicator, countUpTo, anyUpTo}
 use Rattle.incidence.specs.Family.{Family, itemsOf}
 use Rattle.incidence.specs.Report.{cleared, disagreeing}
 use Rattle.incidence.proofs.Booleans.{and-left, and-right, and-both, or-cases, not-both}
@@ -20,36 +20,36 @@ use Rattle.decoding.proofs.Marks.{cleared-as, cleared-none, cleared-bot
 
 -- ---- one number more
 
-pub count-next : (p : ℕ → Bool) (i : ℕ) (b : Bool) → p (i + 1) ≡ b → count p (i + 1) ≡ count p i + bit b
-count-next p i b e = ap (count p) (add-one i) ∙ ap (λ (x : Bool). count p i + bit x) (ap p (sym (add-one i)) ∙ e)
+pub count-next : (p : ℕ → Bool) (i : ℕ) (b : Bool) → p (i + 1) ≡ b → countUpTo p (i + 1) ≡ countUpTo p i + indicator b
+count-next p i b e = ap (countUpTo p) (add-one i) ∙ ap (λ (x : Bool). countUpTo p i + indicator x) (ap p (sym (add-one i)) ∙ e)
 
-pub any-next : (p : ℕ → Bool) (i : ℕ) → any p (i + 1) ≡ any p i || p (i + 1)
-any-next p i = ap (any p) (add-one i) ∙ ap (λ (k : ℕ). any p i || p k) (sym (add-one i))
+pub any-next : (p : ℕ → Bool) (i : ℕ) → anyUpTo p (i + 1) ≡ anyUpTo p i || p (i + 1)
+any-next p i = ap (anyUpTo p) (add-one i) ∙ ap (λ (k : ℕ). anyUpTo p i || p k) (sym (add-one i))
 
-pub any-fails : (p : ℕ → Bool) (i : ℕ) → any p i ≡ false → p (i + 1) ≡ false → any p (i + 1) ≡ false
+pub any-fails : (p : ℕ → Bool) (i : ℕ) → anyUpTo p i ≡ false → p (i + 1) ≡ false → anyUpTo p (i + 1) ≡ false
 any-fails p i e f = any-next p i ∙ ap₂ _||_ e f
 
 -- ---- the marked items are counted
 
-module _ (marks : List ℕ) (i found : ℕ) (so : found ≡ count (isMarked marks) i) where
+module _ (marks : List ℕ) (i found : ℕ) (so : found ≡ countUpTo (isMarked marks) i) where
   marked-at : isMarked marks (i + 1) ≡ not (eqb (getD marks i 0) 0)
   unfolding isMarked markIn
   marked-at = let z : i + 1 - 1 ≡ i = omega arith in ap (λ (m : ℕ). not (eqb (getD marks m 0) 0)) z
 
-  pub counted-more : (getD marks i 0 ≡ 0 → ⊥) → found + 1 ≡ count (isMarked marks) (i + 1)
+  pub counted-more : (getD marks i 0 ≡ 0 → ⊥) → found + 1 ≡ countUpTo (isMarked marks) (i + 1)
   counted-more ne = omega (arith, count-next (isMarked marks) i true (marked-at ∙ ap not (ne-eqb (getD marks i 0) 0 ne)))
 
-  pub counted-same : getD marks i 0 ≡ 0 → found ≡ count (isMarked marks) (i + 1)
+  pub counted-same : getD marks i 0 ≡ 0 → found ≡ countUpTo (isMarked marks) (i + 1)
   counted-same e = omega (arith, count-next (isMarked marks) i false (marked-at ∙ ap not (eq-eqb (getD marks i 0) 0 e)))
 
-  pub counted-done : (n : ℕ) → i ≡ n → found ≡ count (isMarked marks) n
-  counted-done n e = so ∙ ap (count (isMarked marks)) e
+  pub counted-done : (n : ℕ) → i ≡ n → found ≡ countUpTo (isMarked marks) n
+  counted-done n e = so ∙ ap (countUpTo (isMarked marks)) e
 
 -- ---- the items that a row holds
 
 -- one of the first k numbers of the list is j
 abbrev pub picked : List ℕ → ℕ → ℕ → Bool
-picked l k j = any (λ r. eqb (getD l (r - 1) 0) j) k
+picked l k j = anyUpTo (λ r. eqb (getD l (r - 1) 0) j) k
 
 pub picked-next : (l : List ℕ) (k j x : ℕ) → x ≡ getD l k 0 → picked l (k + 1) j ≡ picked l k j || eqb x j
 picked-next l k j x e =
@@ -63,12 +63,12 @@ unfolding itemsOf
 picked-all F row k j h l u = go (F .on row j) refl
   where
     place : ℕ
-    place = count (F .on row) (j - 1)
+    place = countUpTo (F .on row) (j - 1)
 
     ranked : F .on row j ≡ true → getD (itemsOf F row) place 0 ≡ j
     ranked o = listed-rank (F .on row) (F .items) j l u o
 
-    counted : length (itemsOf F row) ≡ count (F .on row) (F .items)
+    counted : length (itemsOf F row) ≡ countUpTo (F .on row) (F .items)
     counted = listed-length (F .on row) (F .items)
 
     go : (b : Bool) → F .on row j ≡ b → picked (itemsOf F row) k j ≡ b
@@ -156,7 +156,7 @@ module _ {F : Family} {agrees : ℕ → Bool} {n : ℕ} {before s : List ℕ} {o
   cleared-next b e j =
       sym (any-next (λ r. agrees r && F .on r j) i ∙ ap (λ (t : Bool). cleared F agrees i j || (t && F .on (i + 1) j)) e)
 
-  rows-next : (b : Bool) → agrees (i + 1) ≡ b → others + bit (not b) ≡ disagreeing agrees (i + 1)
+  rows-next : (b : Bool) → agrees (i + 1) ≡ b → others + indicator (not b) ≡ disagreeing agrees (i + 1)
   unfolding disagreeing
   rows-next b e = omega (arith, C .rows, count-next (λ r. not (agrees r)) i (not b) (ap not e))
 

@@ -6,7 +6,7 @@ use Prim.Native.Nat.{ℕ, zero, suc, _-_, _≤_}
 use lib.Dec.{eqb}
 use lib.ListN.{length, getD, drop}
 use Rattle.cipher.specs.Block.{if_then_else_, same}
-use Rattle.incidence.specs.Count.{bit, any}
+use Rattle.incidence.specs.Count.{indicator, anyUpTo}
 use Rattle.incidence.specs.Family.{Family}
 use Rattle.sums.specs.Adding.{sumIn}
 
@@ -17,7 +17,7 @@ agreesIn a b i = same (sumIn a i) (sumIn b i)
 -- a byte for each of the items 1 to n, 1 for those that pass: "Writes n bytes, 1 named and 0 cleared"
 unfoldable pub marksOf : (ℕ → Bool) → ℕ → List ℕ
 marksOf p zero = []
-marksOf p (suc n) = marksOf p n ++ (bit (p (suc n)) ∷ [])
+marksOf p (suc n) = marksOf p n ++ (indicator (p (suc n)) ∷ [])
 
 -- ---- an array of marks on the way
 
@@ -41,8 +41,8 @@ isMarked marks j = not (eqb (markIn marks j) 0)
 
 -- whether row i holds one of the items 1 to n that is marked
 unfoldable pub holdsMarked : Family → List ℕ → ℕ → ℕ → Bool
-holdsMarked F marks n i = any (λ j. F .on i j && isMarked marks j) n
+holdsMarked F marks n i = anyUpTo (λ j. F .on i j && isMarked marks j) n
 
 -- whether row i disagrees and holds no such item, so that not "every disagreeing row holds a named card"
-unfoldable pub strays : Family → (ℕ → Bool) → List ℕ → ℕ → ℕ → Bool
-strays F agrees marks n i = not (agrees i) && not (holdsMarked F marks n i)
+unfoldable pub unexplainedIn : Family → (ℕ → Bool) → List ℕ → ℕ → ℕ → Bool
+unexplainedIn F agrees marks n i = not (agrees i) && not (holdsMarked F marks n i)

@@ -8,10 +8,10 @@ ghost use mathlib.Core.List.{_++_};
 ghost use Prim.Native.Nat.{_*_, _≤_};
 ghost use lib.Dec.{eqb, leb};
 ghost use lib.ListN.{length, drop};
-ghost use Rattle.incidence.specs.Count.{count, any};
+ghost use Rattle.incidence.specs.Count.{countUpTo, anyUpTo};
 ghost use Rattle.incidence.specs.Report.{cleared, named, numberNamed, disagreeing, answerBy, answer};
 ghost use Rattle.sizes.specs.Sizes.{familyOf};
-ghost use Rattle.decoding.specs.Decoding.{agreesIn, marksOf, Marked, Cleared, isMarked, holdsMarked, strays};
+ghost use Rattle.decoding.specs.Decoding.{agreesIn, marksOf, Marked, Cleared, isMarked, holdsMarked, unexplainedIn};
 
 // What a report says: its answer, how many items are named, and how many rows disagree.
 pub struct Decoded {
@@ -90,7 +90,7 @@ fn clear_agreeing(code: u64, n: usize, a: &[u8], b: &[u8], marks: &mut [u8]) -> 
 // How many of the first n items are marked.
 fn count_named(marks: &[u8], n: usize) -> usize
     requires { ⌜ n ≤ length (now marks) ⌝ }
-    ensures { λ r. ⌜ r ≡ count (isMarked (now (marks .entry))) n ⌝ }
+    ensures { λ r. ⌜ r ≡ countUpTo (isMarked (now (marks .entry))) n ⌝ }
 {
     let mut found = 0;
     let mut i = 0;
@@ -129,25 +129,25 @@ fn holds_named(code: u64, n: usize, row: usize, marks: &[u8]) -> bool
 }
 
 // Whether row i disagrees and holds none of the first n items that is marked.
-fn is_stray(code: u64, n: usize, a: &[u8], b: &[u8], i: usize, marks: &[u8]) -> bool
+fn is_unexplained(code: u64, n: usize, a: &[u8], b: &[u8], i: usize, marks: &[u8]) -> bool
     requires { ⌜ (n ≤ familyOf code .items) × (n ≤ length (now marks)) ⌝ }
     requires { ⌜ (1 ≤ i) × (16 * i ≤ length (now a)) × (16 * i ≤ length (now b)) ⌝ }
-    ensures { λ r. ⌜ r ≡ strays (familyOf code) (agreesIn (now (a .entry)) (now (b .entry))) (now (marks .entry)) n i ⌝ }
+    ensures { λ r. ⌜ r ≡ unexplainedIn (familyOf code) (agreesIn (now (a .entry)) (now (b .entry))) (now (marks .entry)) n i ⌝ }
 {
     !agree(a, b, i) && !holds_named(code, n, i, marks)
 }
 
-// Whether one of the rows is such a stray.
+// Whether one of the rows is unexplained.
 fn find_unexplained(code: u64, n: usize, a: &[u8], b: &[u8], marks: &[u8]) -> bool
     requires { ⌜ (n ≤ familyOf code .items) × (n ≤ length (now marks)) ⌝ }
     requires { ⌜ (16 * familyOf code .rows ≤ length (now a)) × (16 * familyOf code .rows ≤ length (now b)) ⌝ }
-    ensures { λ r. ⌜ r ≡ any (strays (familyOf code) (agreesIn (now (a .entry)) (now (b .entry))) (now (marks .entry)) n) (familyOf code .rows) ⌝ }
+    ensures { λ r. ⌜ r ≡ anyUpTo (unexplainedIn (familyOf code) (agreesIn (now (a .entry)) (now (b .entry))) (now (marks .entry)) n) (familyOf code .rows) ⌝ }
 {
     let rows = sizes::rows(code);
     let mut i = 0;
     while i < rows {
         i += 1;
-        if is_stray(code, n, a, b, i, marks) {
+        if is_unexplained(code, n, a, b, i, marks) {
             return true;
         }
     }
@@ -155,13 +155,13 @@ fn find_unexplained(code: u64, n: usize, a: &[u8], b: &[u8], marks: &[u8]) -> bo
 }
 
 // The answer, by the limit, the number of rows that disagree, the number of items named, and whether a row is unexplained.
-fn choose(limit: usize, rows: usize, names: usize, stray: bool) -> Answer
-    ensures { λ r. ⌜ r ≡ answerBy limit rows names stray ⌝ }
+fn choose(limit: usize, rows: usize, names: usize, unexplained: bool) -> Answer
+    ensures { λ r. ⌜ r ≡ answerBy limit rows names unexplained ⌝ }
 {
     if rows == 0 {
         return Answer::Intact;
     }
-    if 1 <= names && names <= limit && !stray {
+    if 1 <= names && names <= limit && !unexplained {
         return Answer::Named;
     }
     Answer::Beyond
@@ -180,9 +180,9 @@ pub fn decode(code: u64, n: usize, a: &[u8], b: &[u8], marks: &mut [u8]) -> Deco
     mark_all(marks, n);
     let rows = clear_agreeing(code, n, a, b, marks);
     let names = count_named(marks, n);
-    let stray = find_unexplained(code, n, a, b, marks);
+    let unexplained = find_unexplained(code, n, a, b, marks);
     Decoded {
-        answer: choose(sizes::limit(code), rows, names, stray),
+        answer: choose(sizes::limit(code), rows, names, unexplained),
         named: names,
         rows: rows,
     }

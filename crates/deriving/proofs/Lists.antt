@@ -14,8 +14,8 @@ use Rattle.incidence.specs.Count.{listed}
 use Rattle.incidence.specs.Family.{parity}
 use Rattle.incidence.proofs.Listing.{listed-ext}
 use Rattle.plane.specs.Plane.{member, on}
-use Rattle.polynomials.specs.Polynomial.{size}
-use Rattle.polynomials.specs.CyclicCode.{ofList, generator, check, stepsBack, pattern}
+use Rattle.polynomials.specs.Polynomial.{polySize}
+use Rattle.polynomials.specs.CyclicCode.{ofList, generatorPolynomial, checkPolynomial, stepsBack, rowPattern}
 use Rattle.polynomials.proofs.Parity.{xor-none, xor-turn, xor-same, parity-ext, parity-map, parity-last}
 use Rattle.polynomials.proofs.Sizes.{size-most}
 use Rattle.polynomials.proofs.Acting.{act}
@@ -64,17 +64,17 @@ terms-back (c ∷ h) (suc t) f x l =
 module _ (m : ℕ) (D : List ℕ) (some : 0 < m) where
   -- the degree of the check polynomial
   abbrev pub degree : ℕ
-  degree = size (check m D) - 1
+  degree = polySize (checkPolynomial m D) - 1
 
-  has-degree : size (check m D) ≡ suc degree
+  has-degree : polySize (checkPolynomial m D) ≡ suc degree
   has-degree = omega (arith, check-size m D some)
 
   pub degree-most : degree ≤ m
   degree-most = omega (arith, check-size m D some, generator-some m D some)
 
-  pub pattern-within : Within degree (pattern m D)
-  unfolding pattern stepsBack
-  pattern-within = listed-within (λ k. eqb (getD (check m D) (degree - k) 0) 1) degree
+  pub pattern-within : Within degree (rowPattern m D)
+  unfolding rowPattern stepsBack
+  pattern-within = listed-within (λ k. eqb (getD (checkPolynomial m D) (degree - k) 0) 1) degree
 
   -- the row t on is the XOR of those that the steps lead back to
   module _ (i j : ℕ) (li : degree < i) (ui : i ≤ m) (lj : 1 ≤ j) (uj : j ≤ m) where
@@ -82,27 +82,27 @@ module _ (m : ℕ) (D : List ℕ) (some : 0 < m) where
     along : ℕ → Bool
     along = act (ofList m D) (atCard m j)
 
-    row-recurs : along i ≡ parity (λ k. along (i - k)) (pattern m D)
-    unfolding pattern stepsBack along
+    row-recurs : along i ≡ parity (λ k. along (i - k)) (rowPattern m D)
+    unfolding rowPattern stepsBack along
     row-recurs =
         let z : i - degree + degree ≡ i = omega arith in
         ap along (sym z)
-        ∙ sym (xor-same (act (take degree (check m D)) along (i - degree)) (along (i - degree + degree))
-        (sym (act-highest (check m D) degree along (i - degree) has-degree) ∙ check-kills m D some (atCard m j) (atCard-period m j) (i - degree)))
-        ∙ terms-back (check m D) degree along (i - degree) (omega (arith, size-most (check m D), has-degree))
+        ∙ sym (xor-same (act (take degree (checkPolynomial m D)) along (i - degree)) (along (i - degree + degree))
+        (sym (act-highest (checkPolynomial m D) degree along (i - degree) has-degree) ∙ check-kills m D some (atCard m j) (atCard-period m j) (i - degree)))
+        ∙ terms-back (checkPolynomial m D) degree along (i - degree) (omega (arith, size-most (checkPolynomial m D), has-degree))
         ∙ parity-ext (λ k. along (i - degree + degree - k)) (λ k. along (i - k)) (λ k. ap (λ (n : ℕ). along (n - k)) z)
-        (listed (λ k. eqb (getD (check m D) (degree - k) 0) 1) degree)
+        (listed (λ k. eqb (getD (checkPolynomial m D) (degree - k) 0) 1) degree)
 
-    yields-at : on m D i j ≡ xorBack (on m D) (pattern m D) i j
+    yields-at : on m D i j ≡ xorBack (on m D) (rowPattern m D) i j
     unfolding xorBack along
     yields-at =
         sym (row-on m D some i j (omega arith) ui lj uj)
         ∙ row-recurs
         ∙ within-ext (λ k. along (i - k)) (λ k. on m D (i - k) j) degree
-        (λ k a b. row-on m D some (i - k) j (omega arith) (omega arith) lj uj) (pattern m D) pattern-within
-        ∙ sym (parity-map (λ a. on m D a j) (λ k. i - k) (pattern m D))
+        (λ k a b. row-on m D some (i - k) j (omega arith) (omega arith) lj uj) (rowPattern m D) pattern-within
+        ∙ sym (parity-map (λ a. on m D a j) (λ k. i - k) (rowPattern m D))
 
-  pub pattern-yields : Pattern m (on m D) degree (pattern m D)
+  pub pattern-yields : Pattern m (on m D) degree (rowPattern m D)
   pattern-yields = record { within = pattern-within; yields = λ i l u j lj uj. yields-at i j l u lj uj }
 
   -- ---- no shorter one
@@ -111,7 +111,7 @@ module _ (m : ℕ) (D : List ℕ) (some : 0 < m) where
   turns : List ℕ
   turns = map (λ u. m - u % m) (bezout m D some .turns)
 
-  generator-turned : size (generator m D) ≤ m → (n : ℕ) → n < m → turned m D turns n ≡ eqb (getD (generator m D) n 0) 1
+  generator-turned : polySize (generatorPolynomial m D) ≤ m → (n : ℕ) → n < m → turned m D turns n ≡ eqb (getD (generatorPolynomial m D) n 0) 1
   unfolding turned turns
   generator-turned s n l =
       let y : n + (m - 0) ≡ n + m = omega arith in
@@ -121,21 +121,21 @@ module _ (m : ℕ) (D : List ℕ) (some : 0 < m) where
       ∙ parity-ext (λ u. member ((n + (m - u % m)) % m) D) (λ u. act (ofList m D) (atCard m n) (0 + u))
       (λ u. let e : 0 + u ≡ u = omega arith in sym (ap (act (ofList m D) (atCard m n)) e ∙ row-shows m D some n u)) (bezout m D some .turns)
       ∙ sym (bezout m D some .says (atCard m n) (atCard-period m n) 0)
-      ∙ shows m some n 0 (generator m D) s
-      ∙ ap (λ (x : ℕ). eqb (getD (generator m D) x 0) 1) z
+      ∙ shows m some n 0 (generatorPolynomial m D) s
+      ∙ ap (λ (x : ℕ). eqb (getD (generatorPolynomial m D) x 0) 1) z
 
   pub no-shorter-row : NoShorterRow m (on m D) degree
   no-shorter-row t l Q w i li ui =
-      let e : size (check m D) ≡ suc (suc m - size (generator m D)) = check-size m D some in
-      let g : 0 < size (generator m D) = generator-some m D some in
-      let s : size (generator m D) ≤ m = omega arith in
-      let n : ℕ = size (generator m D) - 1 in
+      let e : polySize (checkPolynomial m D) ≡ suc (suc m - polySize (generatorPolynomial m D)) = check-size m D some in
+      let g : 0 < polySize (generatorPolynomial m D) = generator-some m D some in
+      let s : polySize (generatorPolynomial m D) ≤ m = omega arith in
+      let n : ℕ = polySize (generatorPolynomial m D) - 1 in
       fails-or m (on m D) Q i
       (no-row m D some turns n degree
-      (generator-turned s n (omega arith) ∙ eq-eqb _ 1 (size-at (generator m D) n (omega arith)))
+      (generator-turned s n (omega arith) ∙ eq-eqb _ 1 (size-at (generatorPolynomial m D) n (omega arith)))
       (λ k a b.
       generator-turned s (n + k) (omega arith)
-      ∙ ne-eqb _ 1 (size-above (generator m D) (size (generator m D)) (n + k) (omega arith) (omega arith)))
+      ∙ ne-eqb _ 1 (size-above (generatorPolynomial m D) (polySize (generatorPolynomial m D)) (n + k) (omega arith) (omega arith)))
       t l Q w i li ui)
 
   pub no-shorter-pattern : NoShorterPattern m (on m D) degree

@@ -6,7 +6,7 @@ use mathlib.Core.Logic.{_⊎_, inl, inr}
 use Prim.Native.Nat.{ℕ, zero, suc, _-_, _≤_, _<_}
 use native.Mathlib.Omega.{arith}
 use Rattle.cipher.specs.Block.{if_then_else_}
-use Rattle.incidence.specs.Count.{any, listed}
+use Rattle.incidence.specs.Count.{anyUpTo, listed}
 use Rattle.incidence.specs.Family.{parity}
 use Rattle.incidence.proofs.Booleans.{not-both, not-passed}
 use Rattle.incidence.proofs.Counting.{Found, any-found, any-some, last-or}
@@ -20,9 +20,9 @@ module _ (m : ℕ) (on : ℕ → ℕ → Bool) (Q : List ℕ) (i : ℕ) where
 
   pub fails-or : (Yields m on Q i → ⊥) → Fails m on Q i
   unfolding differ
-  fails-or h = go (any differ m) refl
+  fails-or h = go (anyUpTo differ m) refl
     where
-      go : (b : Bool) → any differ m ≡ b → Fails m on Q i
+      go : (b : Bool) → anyUpTo differ m ≡ b → Fails m on Q i
       go true e =
           let f : Found differ m = any-found differ m e in
           record {
@@ -36,7 +36,7 @@ module _ (m : ℕ) (on : ℕ → ℕ → Bool) (Q : List ℕ) (i : ℕ) where
       go false e =
           absurd (h (λ j l u.
           xor-same (on i j) (xorBack on Q i j)
-          (not-passed (differ j) (λ p. not-both (any differ m) (any-some differ m j l u p) e))))
+          (not-passed (differ j) (λ p. not-both (anyUpTo differ m) (any-some differ m j l u p) e))))
 
   pub fails-not : Fails m on Q i → Yields m on Q i → ⊥
   fails-not f y = f .differs (y (f .card) (f .low) (f .high))

@@ -8,11 +8,11 @@ use lib.ListN.{length, getD, take, drop}
 use lib.Seq.{take-at}
 use borrow.Author.Tests.{le-ltb}
 use Rattle.incidence.proofs.Counting.{every, every-at}
-use Rattle.plane.specs.Table.{itemsOf, differenceLists, differences}
+use Rattle.plane.specs.Table.{planeItems, differenceLists, differences}
 use Rattle.plane.proofs.Ranks.{under, under-at}
 use Rattle.plane.proofs.Lookup.{five, no-differences, items-most}
 use Rattle.plane.proofs.Rules.{rules}
-use Rattle.polynomials.specs.CyclicCode.{pattern as patternOf}
+use Rattle.polynomials.specs.CyclicCode.{rowPattern}
 use Rattle.polynomials.specs.Deriving.{refuses, patternAnswer, patternWrites}
 use Rattle.polynomials.specs.declared.Derived.{Derived}
 use Rattle.polynomials.proofs.Deriving.{refuses-not, is-derived, is-written}
@@ -38,23 +38,23 @@ lent-list s n l o e f =
     let z : n - 0 ≡ length (differences s) = omega arith in
     ap₂ take z e ∙ take-at (differences s) (drop (length (differences s)) o) (length (differences s)) refl
 
-module _ (s m room : ℕ) (D : List ℕ) (low : 1 ≤ s) (high : s ≤ 4) (e : m ≡ itemsOf s) (d : D ≡ differences s) (wide : 273 ≤ room) where
+module _ (s m room : ℕ) (D : List ℕ) (low : 1 ≤ s) (high : s ≤ 4) (e : m ≡ planeItems s) (d : D ≡ differences s) (wide : 273 ≤ room) where
   not-refused : refuses m room ≡ false
   not-refused =
-      let some : 0 < itemsOf s = rules s low high .some in
+      let some : 0 < planeItems s = rules s low high .some in
       refuses-not m room (λ z. omega arith) (le-ltb 273 m (omega (arith, items-most s))) (le-ltb room m (omega (arith, items-most s)))
 
-  is-pattern : patternOf m D ≡ derived s
+  is-pattern : rowPattern m D ≡ derived s
   unfolding derived
-  is-pattern = ap₂ patternOf e d
+  is-pattern = ap₂ rowPattern e d
 
   pub derived-count : (r : Derived) → r ≡ patternAnswer m D room → r .count ≡ length (derived s)
   derived-count r q =
-      ap (λ (x : Derived). x .count) (q ∙ sym (is-derived m D room (length (patternOf m D)) not-refused refl)) ∙ ap length is-pattern
+      ap (λ (x : Derived). x .count) (q ∙ sym (is-derived m D room (length (rowPattern m D)) not-refused refl)) ∙ ap length is-pattern
 
-pub derived-written : (s m : ℕ) (D o out : List ℕ) → 1 ≤ s → s ≤ 4 → m ≡ itemsOf s → D ≡ differences s → 273 ≤ length o
+pub derived-written : (s m : ℕ) (D o out : List ℕ) → 1 ≤ s → s ≤ 4 → m ≡ planeItems s → D ≡ differences s → 273 ≤ length o
     → out ≡ patternWrites m D o → out ≡ derived s ++ drop (length (derived s)) o
 derived-written s m D o out low high e d wide q =
     q
-    ∙ sym (is-written m D o (patternOf m D ++ drop (length (patternOf m D)) o) (not-refused s m (length o) D low high e d wide) refl)
+    ∙ sym (is-written m D o (rowPattern m D ++ drop (length (rowPattern m D)) o) (not-refused s m (length o) D low high e d wide) refl)
     ∙ ap (λ (l : List ℕ). l ++ drop (length l) o) (is-pattern s m (length o) D low high e d wide)

@@ -10,21 +10,21 @@ use Rattle.cipher.specs.Block.{_⊕_, same}
 use Rattle.cipher.proofs.Xor.{same-true}
 use Rattle.incidence.proofs.Booleans.{and-left, and-right}
 use Rattle.incidence.proofs.Counting.{every, every-at}
-use Rattle.plane.specs.Table.{itemCounts, itemsOf, tagCounts, tagsOf, differenceLists, differences, patternLists, pattern}
+use Rattle.plane.specs.Table.{itemCounts, planeItems, tagCounts, planeTags, differenceLists, differences, patternLists, planePattern}
 use Rattle.plane.specs.Plane.{plane}
 use Rattle.plane.proofs.Rules.{rules}
-use Rattle.polynomials.specs.Polynomial.{longer, size, raised, less, gcdIn, gcd, quotientIn, quotient}
-use Rattle.polynomials.specs.CyclicCode.{modulus, ofList, generator, check, stepsBack, pattern as patternOf}
+use Rattle.polynomials.specs.Polynomial.{longer, polySize, raised, less, gcdIn, gcd, quotientIn, quotient}
+use Rattle.polynomials.specs.CyclicCode.{modulus, ofList, generatorPolynomial, checkPolynomial, stepsBack, rowPattern}
 use Rattle.deriving.specs.Shortest.{Pattern, NoShorterPattern, NoShorterRow, Independent}
 use Rattle.deriving.specs.Derived.{derived}
 use Rattle.deriving.proofs.Lists as lists
 
 -- the pattern derived is the one in use, the degree of the check polynomial is t, and t is 3^s + 1
 planeTest : ℕ → Bool
-planeTest s = same (derived s) (pattern s) && (eqb (size (check (itemsOf s) (differences s))) (suc (tagsOf s)) && eqb (tagsOf s) (3 ^ s + 1))
+planeTest s = same (derived s) (planePattern s) && (eqb (polySize (checkPolynomial (planeItems s) (differences s))) (suc (planeTags s)) && eqb (planeTags s) (3 ^ s + 1))
 
 tested : every (λ s. planeTest (suc s)) 4 ≡ true
-unfolding planeTest same derived patternOf check generator modulus ofList stepsBack longer size raised less gcdIn gcd quotientIn quotient _⊕_ itemsOf itemCounts tagsOf tagCounts differences differenceLists pattern patternLists
+unfolding planeTest same derived rowPattern checkPolynomial generatorPolynomial modulus ofList stepsBack longer polySize raised less gcdIn gcd quotientIn quotient _⊕_ planeItems itemCounts planeTags tagCounts differences differenceLists planePattern patternLists
 tested = refl
 
 module _ (s : ℕ) (low : 1 ≤ s) (high : s ≤ 4) where
@@ -32,45 +32,45 @@ module _ (s : ℕ) (low : 1 ≤ s) (high : s ≤ 4) where
   passes = let e : suc (s - 1) ≡ s = omega arith in subst (λ (n : ℕ). planeTest n ≡ true) e (every-at (λ s. planeTest (suc s)) 4 tested (s - 1) (omega arith))
 
   -- "These must equal the constants in use."
-  pub derived-in-use : derived s ≡ pattern s
+  pub derived-in-use : derived s ≡ planePattern s
   unfolding planeTest
-  derived-in-use = same-true (derived s) (pattern s) (and-left (same (derived s) (pattern s)) _ passes)
+  derived-in-use = same-true (derived s) (planePattern s) (and-left (same (derived s) (planePattern s)) _ passes)
 
   -- t is the degree of the check polynomial
-  pub check-degree : size (check (itemsOf s) (differences s)) ≡ suc (tagsOf s)
+  pub check-degree : polySize (checkPolynomial (planeItems s) (differences s)) ≡ suc (planeTags s)
   unfolding planeTest
-  check-degree = eqb-true _ (suc (tagsOf s)) (and-left _ _ (and-right (same (derived s) (pattern s)) _ passes))
+  check-degree = eqb-true _ (suc (planeTags s)) (and-left _ _ (and-right (same (derived s) (planePattern s)) _ passes))
 
   -- 000, 6.4: "the GF(2) rank of P^(s) is t = 3^s + 1"
-  pub tags-rank : tagsOf s ≡ 3 ^ s + 1
+  pub tags-rank : planeTags s ≡ 3 ^ s + 1
   unfolding planeTest
   tags-rank =
-      eqb-true (tagsOf s) (3 ^ s + 1)
-      (and-right (eqb (size (check (itemsOf s) (differences s))) (suc (tagsOf s))) _ (and-right (same (derived s) (pattern s)) _ passes))
+      eqb-true (planeTags s) (3 ^ s + 1)
+      (and-right (eqb (polySize (checkPolynomial (planeItems s) (differences s))) (suc (planeTags s))) _ (and-right (same (derived s) (planePattern s)) _ passes))
 
-  some : 0 < itemsOf s
+  some : 0 < planeItems s
   some = rules s low high .some
 
   -- what holds of the degree holds of t
-  of-tags : (P : ℕ → Type 0) → P (lists.degree (itemsOf s) (differences s) some) → P (tagsOf s)
-  of-tags P = subst P (let e : size (check (itemsOf s) (differences s)) - 1 ≡ tagsOf s = omega (arith, check-degree) in e)
+  of-tags : (P : ℕ → Type 0) → P (lists.degree (planeItems s) (differences s) some) → P (planeTags s)
+  of-tags P = subst P (let e : polySize (checkPolynomial (planeItems s) (differences s)) - 1 ≡ planeTags s = omega (arith, check-degree) in e)
 
   -- the pattern derived yields every row behind the tagged ones
-  pub derived-yields : Pattern (itemsOf s) (plane s .on) (tagsOf s) (derived s)
+  pub derived-yields : Pattern (planeItems s) (plane s .on) (planeTags s) (derived s)
   unfolding plane derived
-  derived-yields = of-tags (λ t. Pattern (itemsOf s) (plane s .on) t (derived s)) (lists.pattern-yields (itemsOf s) (differences s) some)
+  derived-yields = of-tags (λ t. Pattern (planeItems s) (plane s .on) t (derived s)) (lists.pattern-yields (planeItems s) (differences s) some)
 
   -- no row is the XOR of rows among the t − 1 before it
-  pub no-shorter-row : NoShorterRow (itemsOf s) (plane s .on) (tagsOf s)
+  pub no-shorter-row : NoShorterRow (planeItems s) (plane s .on) (planeTags s)
   unfolding plane
-  no-shorter-row = of-tags (NoShorterRow (itemsOf s) (plane s .on)) (lists.no-shorter-row (itemsOf s) (differences s) some)
+  no-shorter-row = of-tags (NoShorterRow (planeItems s) (plane s .on)) (lists.no-shorter-row (planeItems s) (differences s) some)
 
   -- "For every size it is proved that no shorter pattern yields all rows."
-  pub no-shorter-pattern : NoShorterPattern (itemsOf s) (plane s .on) (tagsOf s)
+  pub no-shorter-pattern : NoShorterPattern (planeItems s) (plane s .on) (planeTags s)
   unfolding plane
-  no-shorter-pattern = of-tags (NoShorterPattern (itemsOf s) (plane s .on)) (lists.no-shorter-pattern (itemsOf s) (differences s) some)
+  no-shorter-pattern = of-tags (NoShorterPattern (planeItems s) (plane s .on)) (lists.no-shorter-pattern (planeItems s) (differences s) some)
 
   -- 000, 6.4: "It uses t independent rows of P^(s) as H"
-  pub independent : Independent (itemsOf s) (plane s .on) (tagsOf s)
+  pub independent : Independent (planeItems s) (plane s .on) (planeTags s)
   unfolding plane
-  independent = of-tags (Independent (itemsOf s) (plane s .on)) (lists.independent (itemsOf s) (differences s) some)
+  independent = of-tags (Independent (planeItems s) (plane s .on)) (lists.independent (planeItems s) (differences s) some)

@@ -9,7 +9,7 @@ use lib.Dec.{leb}
 use lib.ListN.{length, take, drop}
 use borrow.Author.Tests.{leb-true}
 use Rattle.incidence.proofs.Counting.{every, every-at}
-use Rattle.plane.specs.Table.{patternLists, pattern}
+use Rattle.plane.specs.Table.{patternLists, planePattern}
 use Rattle.printing.specs.Text.{ascii, digits, decimal, labelled, over}
 use Rattle.printing.proofs.Putting.{Put, over-front, put-as, put-size, put-front, put-counts}
 use Rattle.deriving.specs.Derived.{derived}
@@ -24,22 +24,22 @@ lines-more (suc n) l =
     let b : suc n ≡ suc n + 1 - 1 = omega arith in
     ap (λ (k : ℕ). patternLines derived k ++ patternLine (suc n) (derived (suc n))) a ∙ ap (patternLines derived) b
 
-pub lines-in-use : (n : ℕ) → n ≤ 4 → patternLines derived n ≡ patternLines pattern n
+pub lines-in-use : (n : ℕ) → n ≤ 4 → patternLines derived n ≡ patternLines planePattern n
 unfolding patternLines
 lines-in-use zero h = refl
 lines-in-use (suc n) h =
     ap₂ (λ (l P : List ℕ). l ++ patternLine (suc n) P) (lines-in-use n (omega arith)) (derived-in-use (suc n) (omega arith) h)
 
 fitTest : ℕ → Bool
-fitTest n = leb (length (patternLines pattern n)) 256
+fitTest n = leb (length (patternLines planePattern n)) 256
 
 fits : every fitTest 5 ≡ true
-unfolding fitTest patternLines patternLine words labelled ascii decimal digits pattern patternLists
+unfolding fitTest patternLines patternLine words labelled ascii decimal digits planePattern patternLists
 fits = refl
 
 lines-fit : (n : ℕ) → n ≤ 4 → length (patternLines derived n) ≤ 256
 unfolding fitTest
-lines-fit n h = omega (arith, ap length (lines-in-use n h), leb-true (length (patternLines pattern n)) 256 (every-at fitTest 5 fits n (omega arith)))
+lines-fit n h = omega (arith, ap length (lines-in-use n h), leb-true (length (patternLines planePattern n)) 256 (every-at fitTest 5 fits n (omega arith)))
 
 pub lines-room : (s long : ℕ) → 1 ≤ s → s ≤ 4 → 256 ≤ long → 0 + length (patternLines derived (s - 1) ++ patternLine s (derived s)) ≤ long
 lines-room s long l u e =
@@ -59,7 +59,7 @@ module _ (r : ℕ) (out out′ : List ℕ) (w : out′ ≡ over 0 (patternLines 
   pub all-derived : out′ ≡ patternLines derived 4 ++ drop (length (patternLines derived 4)) out
   all-derived = w ∙ over-front (patternLines derived 4) out
 
-  pub all-in-use : out′ ≡ patternLines pattern 4 ++ drop (length (patternLines pattern 4)) out
+  pub all-in-use : out′ ≡ patternLines planePattern 4 ++ drop (length (patternLines planePattern 4)) out
   all-in-use = all-derived ∙ ap (λ (l : List ℕ). l ++ drop (length l) out) (lines-in-use 4 (omega arith))
 
   pub all-counts : length out′ ≡ length out → (r ≤ length out′) × (r ≡ length (take r out′))

@@ -13,7 +13,7 @@ use borrow.Author.Tests.{eqb-true, eqb-false, eq-eqb, ne-eqb, ltb-true, ltb-fals
 use Rattle.cipher.specs.Block.{if_then_else_}
 use Rattle.plane.specs.Plane.{member, on}
 use Rattle.plane.proofs.Cyclic.{on-inside}
-use Rattle.polynomials.specs.Polynomial.{size}
+use Rattle.polynomials.specs.Polynomial.{polySize}
 use Rattle.polynomials.specs.CyclicCode.{ofList}
 use Rattle.polynomials.proofs.Parity.{xor-none, xor-turn}
 use Rattle.polynomials.proofs.Terms.{ofList-length}
@@ -22,7 +22,7 @@ use Rattle.polynomials.proofs.Lessening.{size-by}
 use Rattle.polynomials.proofs.Recurring.{act-quiet}
 
 -- a polynomial on a sequence that is 1 at one of n places shows that coefficient
-act-single : (p : List ℕ) (c n : ℕ) (f : ℕ → Bool) (u : ℕ) → c < n → size p ≤ n → f (u + c) ≡ true
+act-single : (p : List ℕ) (c n : ℕ) (f : ℕ → Bool) (u : ℕ) → c < n → polySize p ≤ n → f (u + c) ≡ true
     → ((k : ℕ) → k < n → (k ≡ c → ⊥) → f (u + k) ≡ false) → act p f u ≡ eqb (getD p c 0) 1
 unfolding act
 act-single [] c n f u l s here others = refl
@@ -121,7 +121,7 @@ module _ (m : ℕ) (some : 0 < m) where
                 mod-moves (u + ahead) (k - ahead) (omega (arith, ne)) (omega arith) (ap (λ (x : ℕ). x % m) (sym z) ∙ q)
 
     -- a polynomial of degree below m shows the coefficient that is so far ahead
-    pub shows : (p : List ℕ) → size p ≤ m → act p (atCard m j) u ≡ eqb (getD p ahead 0) 1
+    pub shows : (p : List ℕ) → polySize p ≤ m → act p (atCard m j) u ≡ eqb (getD p ahead 0) 1
     unfolding atCard
     shows p s = act-single p ahead m (atCard m j) u (mod-lt (j + (m - u % m)) some) s (eq-eqb _ (j % m) ahead-at) others
 
@@ -152,7 +152,7 @@ list-top m (e ∷ D) i h = go (list-top m D i h) (ltb e m) refl
     go ih true q = getD-set-other (ofList m D) e i 1 0 (λ z. omega (arith, ltb-true e m q)) ∙ ih
     go ih false q = ih
 
-list-size : (m : ℕ) (D : List ℕ) → size (ofList m D) ≤ m
+list-size : (m : ℕ) (D : List ℕ) → polySize (ofList m D) ≤ m
 list-size m D = size-by (ofList m D) m (λ i h e. omega (arith, e, list-top m D i h))
 
 -- ---- the rows

@@ -5,7 +5,7 @@ ghost use mathlib.Core.Path.{_≡_};
 ghost use mathlib.Core.List.{_++_};
 ghost use Prim.Native.Nat.{_+_, _≤_};
 ghost use lib.ListN.{length, take, drop};
-ghost use Rattle.plane.specs.Table.{differences, pattern};
+ghost use Rattle.plane.specs.Table.{differences, planePattern};
 ghost use Rattle.printing.specs.Text.{labelled, over};
 ghost use Rattle.deriving.specs.Lines.{words, patternLine, patternLines};
 ghost use Rattle.deriving.specs.Derived.{derived};
@@ -93,7 +93,7 @@ fn put_lines(out: &mut [u8]) -> usize
 // the patterns in use.
 pub fn print(out: &mut [u8; 256]) -> usize
     ensures derived { λ _. ⌜ now (out .exit) ≡ patternLines derived 4 ++ drop (length (patternLines derived 4)) (now (out .entry)) ⌝ }
-    ensures in_use { λ _. ⌜ now (out .exit) ≡ patternLines pattern 4 ++ drop (length (patternLines pattern 4)) (now (out .entry)) ⌝ }
+    ensures in_use { λ _. ⌜ now (out .exit) ≡ patternLines planePattern 4 ++ drop (length (patternLines planePattern 4)) (now (out .entry)) ⌝ }
     ensures size { λ r. ⌜ r ≡ length (patternLines derived 4) ⌝ }
     ensures counts { λ r. ⌜ (r ≤ length (now (out .exit))) × (r ≡ length (take r (now (out .exit)))) ⌝ }
 {

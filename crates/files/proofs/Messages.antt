@@ -17,7 +17,7 @@ use Rattle.cipher.specs.Number.{number}
 use Rattle.cipher.proofs.Xor.{same-true, same-eq}
 use Rattle.files.specs.declared.Refusal.{Refusal}
 use Rattle.files.specs.Refusals.{refusal, none, unless, first}
-use Rattle.files.specs.Message.{number16, prefix, count, behind, start, size, refuse3, fits, refuseItems, refuse5, refuse8, fetchRefusal, fetchStart, fetchSize, PartOf}
+use Rattle.files.specs.Message.{number16, prefix, itemCount, behind, itemStart, itemSize, refuse3, itemFits, refuseItems, refuse5, refuse8, fetchRefusal, fetchStart, fetchSize, PartOf}
 use Rattle.files.proofs.Passing.{first-here, first-later, rest-passes, unless-true, unless-false, unless-passes, and-left, and-right, and-true, and-false-l, and-false-r, Plain, plain-unless, plain-first, number-of}
 
 -- ---- numbers
@@ -64,16 +64,16 @@ module _ (s : List ℕ) where
 -- ---- an item fits
 
 module _ (s : List ℕ) (at : ℕ) where
-  pub fits-not-length : length s < at + 2 → false ≡ fits s at
-  unfolding fits
+  pub fits-not-length : length s < at + 2 → false ≡ itemFits s at
+  unfolding itemFits
   fits-not-length h = sym (and-false-l _ (leb (number16 s at) 1024 && leb (at + 2 + number16 s at) (length s)) (lt-leb (at + 2) (length s) h))
 
-  pub fits-not-size : 1024 < number16 s at → false ≡ fits s at
-  unfolding fits
+  pub fits-not-size : 1024 < number16 s at → false ≡ itemFits s at
+  unfolding itemFits
   fits-not-size h = sym (and-false-r (leb (at + 2) (length s)) _ (and-false-l _ (leb (at + 2 + number16 s at) (length s)) (lt-leb (number16 s at) 1024 h)))
 
-  pub fits-else : at + 2 ≤ length s → number16 s at ≤ 1024 → leb (at + 2 + number16 s at) (length s) ≡ fits s at
-  unfolding fits
+  pub fits-else : at + 2 ≤ length s → number16 s at ≤ 1024 → leb (at + 2 + number16 s at) (length s) ≡ itemFits s at
+  unfolding itemFits
   fits-else h g = sym (ap₂ (λ (a b : Bool). a && (b && leb (at + 2 + number16 s at) (length s))) (le-leb (at + 2) (length s) h) (le-leb (number16 s at) 1024 g))
 
   pub record Fits : Type 0 where
@@ -81,8 +81,8 @@ module _ (s : List ℕ) (at : ℕ) where
     pub small : number16 s at ≤ 1024
     pub room : at + 2 + number16 s at ≤ length s
 
-  pub fits-so : fits s at ≡ true → Fits
-  unfolding fits
+  pub fits-so : itemFits s at ≡ true → Fits
+  unfolding itemFits
   fits-so h =
       let b = and-right (leb (at + 2) (length s)) _ h in
       record {
@@ -105,17 +105,17 @@ module _ (s : List ℕ) where
   behind-low zero = omega arith
   behind-low (suc k) = omega (arith, behind-low k)
 
-  pub items-more : (k at : ℕ) (t : Bool) → refuseItems s k ≡ none → at ≡ behind s k → t ≡ fits s at → t ≡ true → refuseItems s (k + 1) ≡ none
+  pub items-more : (k at : ℕ) (t : Bool) → refuseItems s k ≡ none → at ≡ behind s k → t ≡ itemFits s at → t ≡ true → refuseItems s (k + 1) ≡ none
   unfolding refuseItems first
   items-more k at t p e f h =
       ap (refuseItems s) (add-one k)
-      ∙ first-later (refuseItems s k) (unless (fits s (behind s k)) 5 (suc k) ∷ []) p
-      ∙ first-later (unless (fits s (behind s k)) 5 (suc k)) [] (unless-true _ 5 (suc k) (ap (fits s) (sym e) ∙ sym f ∙ h))
+      ∙ first-later (refuseItems s k) (unless (itemFits s (behind s k)) 5 (suc k) ∷ []) p
+      ∙ first-later (unless (itemFits s (behind s k)) 5 (suc k)) [] (unless-true _ 5 (suc k) (ap (itemFits s) (sym e) ∙ sym f ∙ h))
 
-  stopped : (k at : ℕ) (t : Bool) → refuseItems s k ≡ none → at ≡ behind s k → t ≡ fits s at → t ≡ false → refuseItems s (suc k) ≡ refusal 5 (suc k)
+  stopped : (k at : ℕ) (t : Bool) → refuseItems s k ≡ none → at ≡ behind s k → t ≡ itemFits s at → t ≡ false → refuseItems s (suc k) ≡ refusal 5 (suc k)
   unfolding refuseItems
   stopped k at t p e f h =
-      let u = unless-false (fits s (behind s k)) 5 (suc k) (ap (fits s) (sym e) ∙ sym f ∙ h) in
+      let u = unless-false (itemFits s (behind s k)) 5 (suc k) (ap (itemFits s) (sym e) ∙ sym f ∙ h) in
       first-later (refuseItems s k) _ p
       ∙ ap (λ (r : Refusal). first (r ∷ [])) u ∙ first-here (refusal 5 (suc k)) [] (λ (z : 5 ≡ 0). omega arith)
 
@@ -129,32 +129,32 @@ module _ (s : List ℕ) where
       go (inl q) f = ap (refuseItems s) (sym q) ∙ e
       go (inr q) f =
           let p = f (le-of-suc-le-suc q) in
-          ap (λ (x : Refusal). first (x ∷ unless (fits s (behind s n)) 5 (suc n) ∷ [])) p ∙ first-here r _ h
+          ap (λ (x : Refusal). first (x ∷ unless (itemFits s (behind s n)) 5 (suc n) ∷ [])) p ∙ first-here r _ h
 
-  pub items-stop : (k at n : ℕ) (t : Bool) → refuseItems s k ≡ none → at ≡ behind s k → t ≡ fits s at → t ≡ false → n ≡ count s → k < n
+  pub items-stop : (k at n : ℕ) (t : Bool) → refuseItems s k ≡ none → at ≡ behind s k → t ≡ itemFits s at → t ≡ false → n ≡ itemCount s → k < n
       → refusal 5 (k + 1) ≡ refuse5 s
   unfolding refuse5
   items-stop k at n t p e f h c l =
-      let b : suc k ≤ count s = omega arith in
-      let q = stays (count s) (suc k) (refusal 5 (suc k)) (λ (z : 5 ≡ 0). omega arith) (stopped k at t p e f h) b in
+      let b : suc k ≤ itemCount s = omega arith in
+      let q = stays (itemCount s) (suc k) (refusal 5 (suc k)) (λ (z : 5 ≡ 0). omega arith) (stopped k at t p e f h) b in
       ap (refusal 5) (add-one k)
-      ∙ sym (ap (λ (r : Refusal). first (r ∷ unless (eqb (behind s (count s)) (length s)) 5 (count s + 1) ∷ [])) q ∙ first-here (refusal 5 (suc k)) _ (λ (z : 5 ≡ 0). omega arith))
+      ∙ sym (ap (λ (r : Refusal). first (r ∷ unless (eqb (behind s (itemCount s)) (length s)) 5 (itemCount s + 1) ∷ [])) q ∙ first-here (refusal 5 (suc k)) _ (λ (z : 5 ≡ 0). omega arith))
 
-  ended : (k at n : ℕ) → refuseItems s k ≡ none → at ≡ behind s k → n ≡ count s → k ≡ n
+  ended : (k at n : ℕ) → refuseItems s k ≡ none → at ≡ behind s k → n ≡ itemCount s → k ≡ n
       → refuse5 s ≡ first (unless (eqb at (length s)) 5 (n + 1) ∷ [])
   unfolding refuse5
   ended k at n p e c q =
       let z = ap (refuseItems s) (sym (q ∙ c)) ∙ p in
-      first-later (refuseItems s (count s)) _ z
+      first-later (refuseItems s (itemCount s)) _ z
       ∙ (λ i. first (unless (eqb ((ap (behind s) (sym (q ∙ c)) ∙ sym e) i) (length s)) 5 (sym c i + 1) ∷ []))
 
-  pub items-whole : (k at n : ℕ) → refuseItems s k ≡ none → at ≡ behind s k → n ≡ count s → k ≤ n → n ≤ k → at ≡ length s → none ≡ refuse5 s
+  pub items-whole : (k at n : ℕ) → refuseItems s k ≡ none → at ≡ behind s k → n ≡ itemCount s → k ≤ n → n ≤ k → at ≡ length s → none ≡ refuse5 s
   unfolding first
   items-whole k at n p e c a b h =
       let q : k ≡ n = omega arith in
       sym (ended k at n p e c q ∙ first-later (unless (eqb at (length s)) 5 (n + 1)) [] (unless-true _ 5 (n + 1) (eq-eqb at (length s) h)))
 
-  pub items-over : (k at n : ℕ) → refuseItems s k ≡ none → at ≡ behind s k → n ≡ count s → k ≤ n → n ≤ k → (at ≡ length s → ⊥) → refusal 5 (n + 1) ≡ refuse5 s
+  pub items-over : (k at n : ℕ) → refuseItems s k ≡ none → at ≡ behind s k → n ≡ itemCount s → k ≤ n → n ≤ k → (at ≡ length s → ⊥) → refusal 5 (n + 1) ≡ refuse5 s
   items-over k at n p e c a b h =
       let q : k ≡ n = omega arith in
       sym (ended k at n p e c q
@@ -167,19 +167,19 @@ module _ (s : List ℕ) where
   items-fit zero k h l = absurd (not-suc-le-zero l)
   items-fit (suc n) k h l = go (eq-or-lt-of-le (le-of-suc-le-suc l)) (λ (b : k < n). items-fit n k (both .0) b)
     where
-      both : (refuseItems s n .number ≡ 0) × (first (unless (fits s (behind s n)) 5 (suc n) ∷ []) .number ≡ 0)
+      both : (refuseItems s n .number ≡ 0) × (first (unless (itemFits s (behind s n)) 5 (suc n) ∷ []) .number ≡ 0)
       both = rest-passes (refuseItems s n) _ h
 
-      here : fits s (behind s n) ≡ true
-      here = unless-passes _ 5 (suc n) (omega arith) (rest-passes (unless (fits s (behind s n)) 5 (suc n)) [] (both .1) .0)
+      here : itemFits s (behind s n) ≡ true
+      here = unless-passes _ 5 (suc n) (omega arith) (rest-passes (unless (itemFits s (behind s n)) 5 (suc n)) [] (both .1) .0)
 
       go : (k ≡ n) ⊎ (k < n) → (k < n → Fits s (behind s k)) → Fits s (behind s k)
-      go (inl q) f = fits-so s (behind s k) (ap (λ (j : ℕ). fits s (behind s j)) q ∙ here)
+      go (inl q) f = fits-so s (behind s k) (ap (λ (j : ℕ). itemFits s (behind s j)) q ∙ here)
       go (inr q) f = f q
 
-  pub item-fits : (k : ℕ) → refuse5 s .number ≡ 0 → k < count s → Fits s (behind s k)
+  pub item-fits : (k : ℕ) → refuse5 s .number ≡ 0 → k < itemCount s → Fits s (behind s k)
   unfolding refuse5
-  item-fits k h l = items-fit (count s) k (rest-passes (refuseItems s (count s)) _ h .0) l
+  item-fits k h l = items-fit (itemCount s) k (rest-passes (refuseItems s (itemCount s)) _ h .0) l
 
 -- ---- what passes is none
 
@@ -191,57 +191,57 @@ plain-items : (s : List ℕ) (k : ℕ) → Plain (refuseItems s k)
 unfolding refuseItems
 plain-items s zero h = refl
 plain-items s (suc k) h =
-    plain-first (refuseItems s k ∷ unless (fits s (behind s k)) 5 (suc k) ∷ [])
-    (plain-items s k, (plain-unless (fits s (behind s k)) 5 (suc k) (omega arith), tt)) h
+    plain-first (refuseItems s k ∷ unless (itemFits s (behind s k)) 5 (suc k) ∷ [])
+    (plain-items s k, (plain-unless (itemFits s (behind s k)) 5 (suc k) (omega arith), tt)) h
 
 pub plain5 : (s : List ℕ) → Plain (refuse5 s)
 unfolding refuse5
 plain5 s =
-    plain-first (refuseItems s (count s) ∷ unless (eqb (behind s (count s)) (length s)) 5 (count s + 1) ∷ [])
-    (plain-items s (count s), (plain-unless (eqb (behind s (count s)) (length s)) 5 (count s + 1) (omega arith), tt))
+    plain-first (refuseItems s (itemCount s) ∷ unless (eqb (behind s (itemCount s)) (length s)) 5 (itemCount s + 1) ∷ [])
+    (plain-items s (itemCount s), (plain-unless (eqb (behind s (itemCount s)) (length s)) 5 (itemCount s + 1) (omega arith), tt))
 
 -- ---- Fetch
 
 module _ (s : List ℕ) (j : ℕ) (head : Refusal) (eh : head ≡ refuse3 s) where
   pub fetch-header : (head .number ≡ 0 → ⊥) → head ≡ fetchRefusal s j
   unfolding fetchRefusal
-  fetch-header h = sym (ap (λ (r : Refusal). first (r ∷ refuse5 s ∷ refuse8 (count s) j ∷ [])) (sym eh) ∙ first-here head _ h)
+  fetch-header h = sym (ap (λ (r : Refusal). first (r ∷ refuse5 s ∷ refuse8 (itemCount s) j ∷ [])) (sym eh) ∙ first-here head _ h)
 
   pub header-fine : head .number ≡ 0 → (7 ≤ length s) × (length s ≤ 65536)
   header-fine h = headed s (number-of head (refuse3 s) eh h)
 
   module _ (fine : head .number ≡ 0) (items : Refusal) (ei : items ≡ refuse5 s) where
-    past-header : fetchRefusal s j ≡ first (refuse5 s ∷ refuse8 (count s) j ∷ [])
+    past-header : fetchRefusal s j ≡ first (refuse5 s ∷ refuse8 (itemCount s) j ∷ [])
     unfolding fetchRefusal
     past-header = first-later (refuse3 s) _ (plain3 s (number-of head (refuse3 s) eh fine))
 
     pub fetch-items : (items .number ≡ 0 → ⊥) → items ≡ fetchRefusal s j
-    fetch-items h = sym (past-header ∙ ap (λ (r : Refusal). first (r ∷ refuse8 (count s) j ∷ [])) (sym ei) ∙ first-here items _ h)
+    fetch-items h = sym (past-header ∙ ap (λ (r : Refusal). first (r ∷ refuse8 (itemCount s) j ∷ [])) (sym ei) ∙ first-here items _ h)
 
     module _ (whole : items .number ≡ 0) where
-      past-items : fetchRefusal s j ≡ first (refuse8 (count s) j ∷ [])
+      past-items : fetchRefusal s j ≡ first (refuse8 (itemCount s) j ∷ [])
       past-items = past-header ∙ first-later (refuse5 s) _ (plain5 s (number-of items (refuse5 s) ei whole))
 
       pub fetch-zero : j ≡ 0 → refusal 8 0 ≡ fetchRefusal s j
       unfolding refuse8
       fetch-zero z =
           let l : j < 1 = omega arith in
-          sym (past-items ∙ ap (λ (r : Refusal). first (r ∷ [])) (unless-false _ 8 0 (and-false-l _ (leb j (count s)) (lt-leb 1 j l)))
+          sym (past-items ∙ ap (λ (r : Refusal). first (r ∷ [])) (unless-false _ 8 0 (and-false-l _ (leb j (itemCount s)) (lt-leb 1 j l)))
           ∙ first-here (refusal 8 0) [] (λ (e : 8 ≡ 0). omega arith))
 
-      pub fetch-above : (n : ℕ) → n ≡ count s → n < j → refusal 8 0 ≡ fetchRefusal s j
+      pub fetch-above : (n : ℕ) → n ≡ itemCount s → n < j → refusal 8 0 ≡ fetchRefusal s j
       unfolding refuse8
       fetch-above n c h =
-          let l : count s < j = omega arith in
-          sym (past-items ∙ ap (λ (r : Refusal). first (r ∷ [])) (unless-false _ 8 0 (and-false-r (leb 1 j) _ (lt-leb j (count s) l)))
+          let l : itemCount s < j = omega arith in
+          sym (past-items ∙ ap (λ (r : Refusal). first (r ∷ [])) (unless-false _ 8 0 (and-false-r (leb 1 j) _ (lt-leb j (itemCount s) l)))
           ∙ first-here (refusal 8 0) [] (λ (e : 8 ≡ 0). omega arith))
 
-      pub fetch-none : (n : ℕ) → n ≡ count s → (j ≡ 0 → ⊥) → j ≤ n → none ≡ fetchRefusal s j
+      pub fetch-none : (n : ℕ) → n ≡ itemCount s → (j ≡ 0 → ⊥) → j ≤ n → none ≡ fetchRefusal s j
       unfolding refuse8 first
       fetch-none n c z h =
           let a : 1 ≤ j = omega arith in
-          let b : j ≤ count s = omega arith in
-          sym (past-items ∙ first-later (refuse8 (count s) j) [] (unless-true _ 8 0 (and-true _ _ (le-leb 1 j a) (le-leb j (count s) b))))
+          let b : j ≤ itemCount s = omega arith in
+          sym (past-items ∙ first-later (refuse8 (itemCount s) j) [] (unless-true _ 8 0 (and-true _ _ (le-leb 1 j a) (le-leb j (itemCount s) b))))
 
 -- a file and a number that Fetch does not refuse
 pub record Fetchable (s : List ℕ) (j : ℕ) : Type 0 where
@@ -249,21 +249,21 @@ pub record Fetchable (s : List ℕ) (j : ℕ) : Type 0 where
   pub short : length s ≤ 65536
   pub whole : refuse5 s ≡ none
   pub low : 1 ≤ j
-  pub high : j ≤ count s
+  pub high : j ≤ itemCount s
 
 pub fetchable : (s : List ℕ) (j : ℕ) (r : Refusal) → r ≡ fetchRefusal s j → r .number ≡ 0 → Fetchable s j
 unfolding fetchRefusal refuse8
 fetchable s j r e h =
-    let a = rest-passes (refuse3 s) (refuse5 s ∷ refuse8 (count s) j ∷ []) (number-of r _ e h) in
-    let b = rest-passes (refuse5 s) (refuse8 (count s) j ∷ []) (a .1) in
-    let t = unless-passes (leb 1 j && leb j (count s)) 8 0 (omega arith) (rest-passes (refuse8 (count s) j) [] (b .1) .0) in
+    let a = rest-passes (refuse3 s) (refuse5 s ∷ refuse8 (itemCount s) j ∷ []) (number-of r _ e h) in
+    let b = rest-passes (refuse5 s) (refuse8 (itemCount s) j ∷ []) (a .1) in
+    let t = unless-passes (leb 1 j && leb j (itemCount s)) 8 0 (omega arith) (rest-passes (refuse8 (itemCount s) j) [] (b .1) .0) in
     let l = headed s (a .0) in
     record {
       long = l .0;
       short = l .1;
       whole = plain5 s (b .0);
-      low = leb-true 1 j (and-left (leb 1 j) (leb j (count s)) t);
-      high = leb-true j (count s) (and-right (leb 1 j) (leb j (count s)) t);
+      low = leb-true 1 j (and-left (leb 1 j) (leb j (itemCount s)) t);
+      high = leb-true j (itemCount s) (and-right (leb 1 j) (leb j (itemCount s)) t);
     }
 
 -- what Fetch gives
@@ -271,7 +271,7 @@ module _ (s r : RefT (List ℕ)) (j : ℕ) (q : Refusal) (e : q ≡ fetchRefusal
   pub fetched : q .number ≡ 0 → (at n : ℕ) → at ≡ behind (now s) (j - 1) → n ≡ number16 (now s) at
       → now r ≡ take (at + 2 + n - (at + 2)) (drop (at + 2) (now s)) → ptr r .0 ≡ ptr s .0 → ptr r .1 ≡ ptr s .1 + (at + 2)
       → PartOf s (fetchStart (now s) j) (fetchSize (now s) j) r
-  unfolding fetchStart fetchSize start size
+  unfolding fetchStart fetchSize itemStart itemSize
   fetched h at n p m b k o =
       let d : at + 2 + n - (at + 2) ≡ n = omega arith in
       simp (← e, eq-eqb _ _ h, ← p, ← m) record { bytes = rw d at b; block = k; offset = o }

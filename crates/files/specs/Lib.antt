@@ -2,4 +2,4 @@
 pub mod Refusals
 pub mod Message
 pub mod TagFile
-pub mod Handed
+pub mod Arguments

@@ -21,8 +21,8 @@ unfoldable pub prefix : List ℕ
 prefix = 0x54 ∷ 0x42 ∷ 0x53 ∷ 0 ∷ 1 ∷ []
 
 -- the number of items that the file says it has
-unfoldable pub count : List ℕ → ℕ
-count s = number16 s 5
+unfoldable pub itemCount : List ℕ → ℕ
+itemCount s = number16 s 5
 
 -- the place behind the first k items: where the length of item k + 1 stands
 unfoldable pub behind : List ℕ → ℕ → ℕ
@@ -30,14 +30,14 @@ behind s zero = 7
 behind s (suc k) = behind s k + 2 + number16 s (behind s k)
 
 -- where the bytes of item j start, how many they are, and what they are; items are numbered from 1
-unfoldable pub start : List ℕ → ℕ → ℕ
-start s j = behind s (j - 1) + 2
+unfoldable pub itemStart : List ℕ → ℕ → ℕ
+itemStart s j = behind s (j - 1) + 2
 
-unfoldable pub size : List ℕ → ℕ → ℕ
-size s j = number16 s (behind s (j - 1))
+unfoldable pub itemSize : List ℕ → ℕ → ℕ
+itemSize s j = number16 s (behind s (j - 1))
 
 unfoldable pub item : List ℕ → ℕ → List ℕ
-item s j = take (size s j) (drop (start s j) s)
+item s j = take (itemSize s j) (drop (itemStart s j) s)
 
 -- ---- what is refused
 
@@ -46,18 +46,18 @@ unfoldable pub refuse3 : List ℕ → Refusal
 refuse3 s = unless ((leb 7 (length s) && leb (length s) 65536) && same (take 5 s) prefix) 3 0
 
 -- whether an item's length, and the item behind it, lie in the file, and the length is at most 1,024
-unfoldable pub fits : List ℕ → ℕ → Bool
-fits s at = leb (at + 2) (length s) && (leb (number16 s at) 1024 && leb (at + 2 + number16 s at) (length s))
+unfoldable pub itemFits : List ℕ → ℕ → Bool
+itemFits s at = leb (at + 2) (length s) && (leb (number16 s at) 1024 && leb (at + 2 + number16 s at) (length s))
 
 -- 5 for one of the first k items, at the first that does not fit
 unfoldable pub refuseItems : List ℕ → ℕ → Refusal
 refuseItems s zero = none
-refuseItems s (suc k) = first (refuseItems s k ∷ unless (fits s (behind s k)) 5 (suc k) ∷ [])
+refuseItems s (suc k) = first (refuseItems s k ∷ unless (itemFits s (behind s k)) 5 (suc k) ∷ [])
 
 -- 5: "a length above 1,024, a card or its length running past the end, or bytes after the last card. Place: the first such card, or
 -- count+1 for bytes left over."
 unfoldable pub refuse5 : List ℕ → Refusal
-refuse5 s = first (refuseItems s (count s) ∷ unless (eqb (behind s (count s)) (length s)) 5 (count s + 1) ∷ [])
+refuse5 s = first (refuseItems s (itemCount s) ∷ unless (eqb (behind s (itemCount s)) (length s)) 5 (itemCount s + 1) ∷ [])
 
 -- 8: "card number 0 or above count"
 unfoldable pub refuse8 : ℕ → ℕ → Refusal
@@ -66,14 +66,14 @@ refuse8 n j = unless (leb 1 j && leb j n) 8 0
 -- ---- Fetch (shelf, card number): 3, 5, 8
 
 unfoldable pub fetchRefusal : List ℕ → ℕ → Refusal
-fetchRefusal s j = first (refuse3 s ∷ refuse5 s ∷ refuse8 (count s) j ∷ [])
+fetchRefusal s j = first (refuse3 s ∷ refuse5 s ∷ refuse8 (itemCount s) j ∷ [])
 
 -- where the part that Fetch gives starts, and its length: "the empty part at the shelf's front" when it refuses
 unfoldable pub fetchStart : List ℕ → ℕ → ℕ
-fetchStart s j = if passes (fetchRefusal s j) then start s j else 0
+fetchStart s j = if passes (fetchRefusal s j) then itemStart s j else 0
 
 unfoldable pub fetchSize : List ℕ → ℕ → ℕ
-fetchSize s j = if passes (fetchRefusal s j) then size s j else 0
+fetchSize s j = if passes (fetchRefusal s j) then itemSize s j else 0
 
 -- r is the part of the lent slice s from a place on, so many bytes: what it holds, and where it lies in memory
 pub record PartOf (s : RefT (List ℕ)) (at len : ℕ) (r : RefT (List ℕ)) : Type 0 where

@@ -1,5 +1,5 @@
 // The two files of document 01: the message file (shelf) and the tag file (sheet). What is refused of them and where their parts lie.
-pub mod handed;
+pub mod arguments;
 pub mod message;
 pub mod tagfile;
 

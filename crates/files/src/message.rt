@@ -5,7 +5,7 @@ ghost use mathlib.Core.Path.{_≡_};
 ghost use Prim.Native.Nat.{_+_, _≤_, _<_};
 ghost use lib.ListN.{length};
 ghost use Rattle.files.specs.Refusals.{none};
-ghost use Rattle.files.specs.Message.{number16, count, behind, fits, refuse3, refuse5, fetchRefusal, fetchStart, fetchSize, PartOf};
+ghost use Rattle.files.specs.Message.{number16, itemCount, behind, itemFits, refuse3, refuse5, fetchRefusal, fetchStart, fetchSize, PartOf};
 
 // The 2-byte number at a place.
 pub fn number16(s: &[u8], at: usize) -> usize
@@ -60,7 +60,7 @@ impl Cursor {
     // Whether the next item and its length lie in the file, and the length is at most 1,024.
     pub fn fits(self, s: &[u8]) -> bool
         requires { ⌜ self .at ≤ 65536 ⌝ }
-        ensures { λ r. ⌜ r ≡ fits (now (s .entry)) (self .at) ⌝ }
+        ensures { λ r. ⌜ r ≡ itemFits (now (s .entry)) (self .at) ⌝ }
     {
         let at = self.at;
         if s.len() < at + 2 {
@@ -147,7 +147,7 @@ pub fn fetch_refusal(s: &[u8], j: u64) -> Refusal
 
 // The place behind the first k items of a file that is not refused.
 fn seek(s: &[u8], k: usize) -> usize
-    requires { ⌜ (7 ≤ length (now s)) × (length (now s) ≤ 65536) × (refuse5 (now s) ≡ none) × (k < count (now s)) ⌝ }
+    requires { ⌜ (7 ≤ length (now s)) × (length (now s) ≤ 65536) × (refuse5 (now s) ≡ none) × (k < itemCount (now s)) ⌝ }
     ensures { λ r. ⌜ (r ≡ behind (now (s .entry)) k) × (r + 2 + number16 (now (s .entry)) r ≤ length (now (s .entry))) ⌝ }
 {
     let mut c = Cursor::first();

@@ -7,15 +7,15 @@ use native.Mathlib.Omega.{arith}
 use lib.Dec.{eqb}
 use lib.ListN.{length}
 use borrow.Author.Tests.{eqb-true, eqb-false}
-use Rattle.incidence.specs.Count.{bit}
-use Rattle.incidence.specs.Report.{named, numberNamed, number}
+use Rattle.incidence.specs.Count.{indicator}
+use Rattle.incidence.specs.Report.{named, numberNamed, meaning}
 use Rattle.incidence.specs.declared.Answer.{Answer}
 use Rattle.incidence.specs.declared.Answer.the-variants.{Intact, Named, Beyond}
 use Rattle.incidence.proofs.Counting.{count-most}
 use Rattle.sizes.specs.Sizes.{familyOf}
 use Rattle.sizes.proofs.Laws.{items-few}
 use Rattle.files.specs.declared.Refusal.{Refusal}
-use Rattle.files.specs.Message.{count}
+use Rattle.files.specs.Message.{itemCount}
 use Rattle.files.specs.TagFile.{codeOf}
 use Rattle.tagging.specs.Tagging.{keysIn}
 use Rattle.files.proofs.Passing.{given, kept}
@@ -37,39 +37,39 @@ module _ (r : Refusal) (small : r .number < 256) where
 
 -- ---- Verify and Report, done or refused
 
-pub number-small : (a : Answer) → number a ≤ 2
-number-small Intact = omega arith
-number-small Named = omega arith
-number-small Beyond = omega arith
+pub ordinal-small : (a : Answer) → meaning a .ordinal ≤ 2
+ordinal-small Intact = omega arith
+ordinal-small Named = omega arith
+ordinal-small Beyond = omega arith
 
--- the number tells the answer
-pub number-tells : (a b : Answer) → number a ≡ number b → a ≡ b
-number-tells Intact Intact e = refl
-number-tells Intact Named e = absurd (omega arith)
-number-tells Intact Beyond e = absurd (omega arith)
-number-tells Named Intact e = absurd (omega arith)
-number-tells Named Named e = refl
-number-tells Named Beyond e = absurd (omega arith)
-number-tells Beyond Intact e = absurd (omega arith)
-number-tells Beyond Named e = absurd (omega arith)
-number-tells Beyond Beyond e = refl
+-- the ordinal tells the answer
+pub ordinal-tells : (a b : Answer) → meaning a .ordinal ≡ meaning b .ordinal → a ≡ b
+ordinal-tells Intact Intact e = refl
+ordinal-tells Intact Named e = absurd (omega arith)
+ordinal-tells Intact Beyond e = absurd (omega arith)
+ordinal-tells Named Intact e = absurd (omega arith)
+ordinal-tells Named Named e = refl
+ordinal-tells Named Beyond e = absurd (omega arith)
+ordinal-tells Beyond Intact e = absurd (omega arith)
+ordinal-tells Beyond Named e = absurd (omega arith)
+ordinal-tells Beyond Beyond e = refl
 
-pub yes-done : (r : Refusal) (t : Bool) → r .number ≡ 0 → 256 * bit t ≡ packedYes r t
+pub yes-done : (r : Refusal) (t : Bool) → r .number ≡ 0 → 256 * indicator t ≡ packedYes r t
 unfolding packedYes
-yes-done r t h = given r r refl (256 * bit t) (packed r) h
+yes-done r t h = given r r refl (256 * indicator t) (packed r) h
 
 pub yes-refused : (r : Refusal) (t : Bool) → (r .number ≡ 0 → ⊥) → packed r ≡ packedYes r t
 unfolding packedYes
-yes-refused r t h = kept r r refl (256 * bit t) (packed r) h
+yes-refused r t h = kept r r refl (256 * indicator t) (packed r) h
 
 module _ (r : Refusal) (said : Answer) (names rows : ℕ) where
-  pub report-done : r .number ≡ 0 → 256 * number said + 65536 * (names % 65536) + 4294967296 * (rows % 65536) ≡ packedReport r said names rows
+  pub report-done : r .number ≡ 0 → 256 * meaning said .ordinal + 65536 * (names % 65536) + 4294967296 * (rows % 65536) ≡ packedReport r said names rows
   unfolding packedReport
-  report-done h = given r r refl (256 * number said + 65536 * (names % 65536) + 4294967296 * (rows % 65536)) (packed r) h
+  report-done h = given r r refl (256 * meaning said .ordinal + 65536 * (names % 65536) + 4294967296 * (rows % 65536)) (packed r) h
 
   pub report-refused : (r .number ≡ 0 → ⊥) → packed r ≡ packedReport r said names rows
   unfolding packedReport
-  report-refused h = kept r r refl (256 * number said + 65536 * (names % 65536) + 4294967296 * (rows % 65536)) (packed r) h
+  report-refused h = kept r r refl (256 * meaning said .ordinal + 65536 * (names % 65536) + 4294967296 * (rows % 65536)) (packed r) h
 
   -- number 0 is read exactly where there is no refusal
   pub report-passes : r .number < 256 → numberIn (packedReport r said names rows) ≡ 0 → r .number ≡ 0
@@ -79,23 +79,23 @@ module _ (r : Refusal) (said : Answer) (names rows : ℕ) where
       go true q = eqb-true (r .number) 0 q
       go false q = sym (number-back r small) ∙ ap numberIn (report-refused (eqb-false (r .number) 0 q)) ∙ e
 
-  pub answer-back : r .number ≡ 0 → answerIn (packedReport r said names rows) ≡ number said
+  pub answer-back : r .number ≡ 0 → answerIn (packedReport r said names rows) ≡ meaning said .ordinal
   unfolding answerIn
-  answer-back h = let l = number-small said in ap (λ (w : ℕ). w / 256 % 256) (sym (report-done h)) ∙ omega arith
+  answer-back h = let l = ordinal-small said in ap (λ (w : ℕ). w / 256 % 256) (sym (report-done h)) ∙ omega arith
 
   pub named-back : r .number ≡ 0 → names < 65536 → namedIn (packedReport r said names rows) ≡ names
   unfolding namedIn
-  named-back h s = let l = number-small said in ap (λ (w : ℕ). w / 65536 % 65536) (sym (report-done h)) ∙ omega arith
+  named-back h s = let l = ordinal-small said in ap (λ (w : ℕ). w / 65536 % 65536) (sym (report-done h)) ∙ omega arith
 
   pub rows-back : r .number ≡ 0 → rows < 65536 → rowsIn (packedReport r said names rows) ≡ rows
   unfolding rowsIn
-  rows-back h s = let l = number-small said in ap (λ (w : ℕ). w / 4294967296 % 65536) (sym (report-done h)) ∙ omega arith
+  rows-back h s = let l = ordinal-small said in ap (λ (w : ℕ). w / 4294967296 % 65536) (sym (report-done h)) ∙ omega arith
 
-pub yes-back : (r : Refusal) (t : Bool) → r .number ≡ 0 → yesIn (packedYes r t) ≡ bit t
+pub yes-back : (r : Refusal) (t : Bool) → r .number ≡ 0 → yesIn (packedYes r t) ≡ indicator t
 unfolding yesIn
 yes-back r t h = ap (λ (w : ℕ). w / 256 % 2) (sym (yes-done r t h)) ∙ go t
   where
-    go : (t : Bool) → 256 * bit t / 256 % 2 ≡ bit t
+    go : (t : Bool) → 256 * indicator t / 256 % 2 ≡ indicator t
     go true = refl
     go false = refl
 
@@ -105,21 +105,21 @@ packed-same r r′ a a′ n n′ m m′ er ea en em = λ i. packedReport (er i) 
 -- ---- demand 3 as C reads it
 
 -- few enough to fit their bits
-names-few : (keys s f out : List ℕ) → Reportable keys s f (length out) → numberNamed (familyOf (codeOf f)) (agrees (keysIn keys) s f) (count s) < 65536
+names-few : (keys s f out : List ℕ) → Reportable keys s f (length out) → numberNamed (familyOf (codeOf f)) (agrees (keysIn keys) s f) (itemCount s) < 65536
 unfolding numberNamed
 names-few keys s f out R =
     let q = R .files in
-    omega (arith, count-most (named (familyOf (codeOf f)) (agrees (keysIn keys) s f)) (count s), q .counts, file-count f (q .file), items-few (codeOf f))
+    omega (arith, count-most (named (familyOf (codeOf f)) (agrees (keysIn keys) s f)) (itemCount s), q .counts, file-count f (q .file), items-few (codeOf f))
 
 pub claim-packed : (keys s f before marks : List ℕ) (r : Refusal) (a : Answer) (names rows w : ℕ)
     → r ≡ reportRefusal keys s f (length before) → names ≡ reportNamed keys s f before → w ≡ packedReport r a names rows
     → (numberIn w ≡ 0 → r .number ≡ 0) → (r .number ≡ 0 → Claim keys s f marks names a)
-    → numberIn w ≡ 0 → (said : Answer) → number said ≡ answerIn w → Claim keys s f marks (namedIn w) said
+    → numberIn w ≡ 0 → (said : Answer) → meaning said .ordinal ≡ answerIn w → Claim keys s f marks (namedIn w) said
 unfolding reportNamed
 claim-packed keys s f before marks r a names rows w er en ew z D e said es =
     let h = z e in
     let R = reportable keys s f (length before) r er h in
     let n = en ∙ sym (given r (reportRefusal keys s f (length before)) er _ 0 h) in
     let b = ap namedIn ew ∙ named-back r a names rows h (subst (λ (x : ℕ). x < 65536) (sym n) (names-few keys s f before R)) in
-    let t = number-tells said a (es ∙ ap answerIn ew ∙ answer-back r a names rows h) in
+    let t = ordinal-tells said a (es ∙ ap answerIn ew ∙ answer-back r a names rows h) in
     subst (λ (x : Answer). Claim keys s f marks (namedIn w) x) (sym t) (subst (λ (x : ℕ). Claim keys s f marks x a) (sym b) (D h))

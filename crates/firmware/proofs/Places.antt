@@ -13,9 +13,9 @@ use Rattle.incidence.specs.Count.{inside}
 use Rattle.sizes.specs.Sizes.{known, familyOf}
 use Rattle.files.specs.declared.Refusal.{Refusal}
 use Rattle.files.specs.Refusals.{unless, passes, first}
-use Rattle.files.specs.Message.{number16, prefix, count, behind, fits, refuseItems, refuse3, refuse5, refuse8}
+use Rattle.files.specs.Message.{number16, prefix, itemCount, behind, itemFits, refuseItems, refuse3, refuse5, refuse8}
 use Rattle.files.specs.TagFile.{tagPrefix, fileSize, codeOf, countOf, bodyOf, macOf, countFits, refuse6, refuse20}
-use Rattle.files.specs.Handed.{refuse1, refuse2, refuse4, refuse7, refuse9}
+use Rattle.files.specs.Arguments.{refuse1, refuse2, refuse4, refuse7, refuse9}
 use Rattle.tagging.specs.Tagging.{keysIn}
 use Rattle.scheme.specs.Calls.{refuse21, tagRefusal, verifyRefusal, reportRefusal, replaceRefusal}
 
@@ -48,8 +48,8 @@ number-two (x ∷ []) b h = omega (arith, b .0)
 number-two (x ∷ y ∷ []) b h = omega (arith, b .0, b .1 .0)
 number-two (x ∷ y ∷ z ∷ rest) b h = absurd (omega arith)
 
-count-small : (s : List ℕ) → Bytes s → count s < 65536
-unfolding count number16
+count-small : (s : List ℕ) → Bytes s → itemCount s < 65536
+unfolding itemCount number16
 count-small s b = number-two (take 2 (drop 5 s)) (take-bytes 2 (drop 5 s) (drop-bytes 5 s b)) (simp length-take (omega arith))
 
 -- ---- 5
@@ -59,15 +59,15 @@ unfolding refuseItems
 items-place s zero = omega arith
 items-place s (suc k) =
     let r = items-place s k in
-    first-place (suc k) (refuseItems s k ∷ unless (fits s (behind s k)) 5 (suc k) ∷ []) (omega arith, (unless-place (fits s (behind s k)) 5 (suc k) (suc k) (omega arith), tt))
+    first-place (suc k) (refuseItems s k ∷ unless (itemFits s (behind s k)) 5 (suc k) ∷ []) (omega arith, (unless-place (itemFits s (behind s k)) 5 (suc k) (suc k) (omega arith), tt))
 
 place5 : (s : List ℕ) → Bytes s → refuse5 s .place ≤ 65536
 unfolding refuse5
 place5 s b =
     let n = count-small s b in
-    let r = items-place s (count s) in
-    first-place 65536 (refuseItems s (count s) ∷ unless (eqb (behind s (count s)) (length s)) 5 (count s + 1) ∷ [])
-    (omega arith, (unless-place (eqb (behind s (count s)) (length s)) 5 (count s + 1) 65536 (omega arith), tt))
+    let r = items-place s (itemCount s) in
+    first-place 65536 (refuseItems s (itemCount s) ∷ unless (eqb (behind s (itemCount s)) (length s)) 5 (itemCount s + 1) ∷ [])
+    (omega arith, (unless-place (eqb (behind s (itemCount s)) (length s)) 5 (itemCount s + 1) 65536 (omega arith), tt))
 
 -- ---- the others
 
@@ -112,7 +112,7 @@ place20 key f = small (same (macOf f) (cmac key (bodyOf f))) 20
 
 place21 : (s f : List ℕ) → refuse21 s f .place ≤ 65536
 unfolding refuse21
-place21 s f = small (eqb (count s) (countOf f)) 21
+place21 s f = small (eqb (itemCount s) (countOf f)) 21
 
 -- ---- each call
 
@@ -120,8 +120,8 @@ module _ (keys s : List ℕ) (bytes : Bytes s) where
   pub tag-place : (c room : ℕ) → tagRefusal keys c s room .place ≤ 65536
   unfolding tagRefusal
   tag-place c room =
-      first-place 65536 (refuse1 (length keys) ∷ refuse2 c ∷ refuse3 s ∷ refuse4 c (count s) ∷ refuse5 s ∷ refuse7 (fileSize c) room ∷ [])
-      (place1 (length keys), (place2 c, (place3 s, (place4 c (count s), (place5 s bytes, (place7 (fileSize c) room, tt))))))
+      first-place 65536 (refuse1 (length keys) ∷ refuse2 c ∷ refuse3 s ∷ refuse4 c (itemCount s) ∷ refuse5 s ∷ refuse7 (fileSize c) room ∷ [])
+      (place1 (length keys), (place2 c, (place3 s, (place4 c (itemCount s), (place5 s bytes, (place7 (fileSize c) room, tt))))))
 
   pub verify-place : (f : List ℕ) → verifyRefusal keys s f .place ≤ 65536
   unfolding verifyRefusal
@@ -131,7 +131,7 @@ module _ (keys s : List ℕ) (bytes : Bytes s) where
 
   pub report-place : (f : List ℕ) (room : ℕ) → reportRefusal keys s f room .place ≤ 65536
   unfolding reportRefusal
-  report-place f room = first-place 65536 (verifyRefusal keys s f ∷ refuse7 (count s) room ∷ []) (verify-place f, (place7 (count s) room, tt))
+  report-place f room = first-place 65536 (verifyRefusal keys s f ∷ refuse7 (itemCount s) room ∷ []) (verify-place f, (place7 (itemCount s) room, tt))
 
 pub replace-place : (keys f : List ℕ) (j : ℕ) (old new : List ℕ) (room : ℕ) → replaceRefusal keys f j old new room .place ≤ 65536
 unfolding replaceRefusal

@@ -4,8 +4,8 @@
 use mathlib.Core.Bool.{Bool}
 use Prim.Native.Nat.{ℕ, _+_, _*_, _/_, _%_}
 use Rattle.cipher.specs.Block.{if_then_else_}
-use Rattle.incidence.specs.Count.{bit}
-use Rattle.incidence.specs.Report.{number}
+use Rattle.incidence.specs.Count.{indicator}
+use Rattle.incidence.specs.Report.{meaning}
 use Rattle.incidence.specs.declared.Answer.{Answer}
 use Rattle.files.specs.declared.Refusal.{Refusal}
 use Rattle.files.specs.Refusals.{passes}
@@ -16,11 +16,11 @@ packed r = r .number + 256 * (r .place % 16777216)
 
 -- what Verify says
 unfoldable pub packedYes : Refusal → Bool → ℕ
-packedYes r same = if passes r then 256 * bit same else packed r
+packedYes r same = if passes r then 256 * indicator same else packed r
 
 -- what Report says
 unfoldable pub packedReport : Refusal → Answer → ℕ → ℕ → ℕ
-packedReport r said names rows = if passes r then 256 * number said + 65536 * (names % 65536) + 4294967296 * (rows % 65536) else packed r
+packedReport r said names rows = if passes r then 256 * meaning said .ordinal + 65536 * (names % 65536) + 4294967296 * (rows % 65536) else packed r
 
 -- ---- what C reads from it
 

@@ -6,7 +6,7 @@ use scheme::Reported;
 use scheme::Verified;
 ghost use mathlib.Core.Path.{_≡_};
 ghost use lib.ListN.{length};
-ghost use Rattle.incidence.specs.Report.{number};
+ghost use Rattle.incidence.specs.Report.{meaning};
 ghost use Rattle.incidence.specs.declared.Answer.{Answer};
 ghost use Rattle.scheme.specs.Calls.{tagRefusal, tagWrites, verifyRefusal, verifyYes, reportRefusal, reportWrites, reportAnswer, reportNamed, reportRows, replaceRefusal, replaceWrites};
 ghost use Rattle.scheme.specs.Claim.{Claim};
@@ -20,8 +20,8 @@ fn pack(r: Refusal) -> u64
 }
 
 // An answer as its number.
-fn number(said: Answer) -> u64
-    ensures { λ w. ⌜ w ≡ number said ⌝ }
+fn ordinal(said: Answer) -> u64
+    ensures { λ w. ⌜ w ≡ meaning said .ordinal ⌝ }
 {
     match said {
         Answer::Intact => 0,
@@ -54,7 +54,7 @@ fn pack_report(r: Reported) -> u64
         return pack(refused);
     }
     let said = r.answer;
-    256 * number(said) + 65536 * (r.named as u64 % 65536) + 4294967296 * (r.rows as u64 % 65536)
+    256 * ordinal(said) + 65536 * (r.named as u64 % 65536) + 4294967296 * (r.rows as u64 % 65536)
 }
 
 #[no_mangle]
@@ -76,7 +76,7 @@ pub extern "C" fn gtm_verify(keys: &[u8], message: &[u8], tagfile: &[u8]) -> u64
 pub extern "C" fn gtm_report(keys: &[u8], message: &[u8], tagfile: &[u8], marks: &mut [u8]) -> u64
     ensures says { λ w. ⌜ w ≡ packedReport (reportRefusal (now (keys .entry)) (now (message .entry)) (now (tagfile .entry)) (length (now (marks .entry)))) (reportAnswer (now (keys .entry)) (now (message .entry)) (now (tagfile .entry)) (now (marks .entry))) (reportNamed (now (keys .entry)) (now (message .entry)) (now (tagfile .entry)) (now (marks .entry))) (reportRows (now (keys .entry)) (now (message .entry)) (now (tagfile .entry)) (now (marks .entry))) ⌝ }
     ensures written { λ _. ⌜ now (marks .exit) ≡ reportWrites (now (keys .entry)) (now (message .entry)) (now (tagfile .entry)) (now (marks .entry)) ⌝ }
-    ensures detection { λ w. ⌜ (numberIn w ≡ 0 → (said : Answer) → number said ≡ answerIn w → Claim (now (keys .entry)) (now (message .entry)) (now (tagfile .entry)) (now (marks .exit)) (namedIn w) said) ⌝ }
+    ensures detection { λ w. ⌜ (numberIn w ≡ 0 → (said : Answer) → meaning said .ordinal ≡ answerIn w → Claim (now (keys .entry)) (now (message .entry)) (now (tagfile .entry)) (now (marks .exit)) (namedIn w) said) ⌝ }
 {
     pack_report(scheme::report(keys, message, tagfile, marks))
 }

@@ -6,7 +6,7 @@ use Prim.Native.Nat.{ℕ, zero, suc, _+_, _-_, _≤_, _<_}
 use native.Mathlib.Omega.{arith}
 use lib.Dec.{ltb, leb}
 use borrow.Author.Tests.{ltb-true, ltb-false, leb-true, le-leb}
-use Rattle.incidence.specs.Count.{bit, count, any, inside}
+use Rattle.incidence.specs.Count.{indicator, countUpTo, anyUpTo, inside}
 use Rattle.incidence.proofs.Booleans.{and-left, and-right, and-both, or-cases, or-first, or-second, not-passed}
 
 -- what is at most n + 1 is n + 1 or at most n
@@ -17,7 +17,7 @@ last-or k n h = go (ltb n k) refl
     go true e = inl (omega (arith, ltb-true n k e))
     go false e = inr (ltb-false n k e)
 
-pub bit-most : (b : Bool) → bit b ≤ 1
+pub bit-most : (b : Bool) → indicator b ≤ 1
 bit-most true = omega arith
 bit-most false = omega arith
 
@@ -34,60 +34,60 @@ inside-yes n i l u = and-both (le-leb 1 i l) (le-leb i n u)
 
 -- ---- counts
 
-pub count-ext : (p q : ℕ → Bool) (n : ℕ) → ((i : ℕ) → 1 ≤ i → i ≤ n → p i ≡ q i) → count p n ≡ count q n
+pub count-ext : (p q : ℕ → Bool) (n : ℕ) → ((i : ℕ) → 1 ≤ i → i ≤ n → p i ≡ q i) → countUpTo p n ≡ countUpTo q n
 count-ext p q zero h = refl
 count-ext p q (suc n) h =
-    ap₂ _+_ (count-ext p q n (λ i l u. h i l (omega arith))) (ap bit (h (suc n) (omega arith) (omega arith)))
+    ap₂ _+_ (count-ext p q n (λ i l u. h i l (omega arith))) (ap indicator (h (suc n) (omega arith) (omega arith)))
 
-pub count-most : (p : ℕ → Bool) (n : ℕ) → count p n ≤ n
+pub count-most : (p : ℕ → Bool) (n : ℕ) → countUpTo p n ≤ n
 count-most p zero = omega arith
 count-most p (suc n) = omega (arith, count-most p n, bit-most (p (suc n)))
 
 -- fewer pass a stronger test
-bit-mono : (a b : Bool) → (a ≡ true → b ≡ true) → bit a ≤ bit b
+bit-mono : (a b : Bool) → (a ≡ true → b ≡ true) → indicator a ≤ indicator b
 bit-mono true b h = rw (h refl) (omega arith)
 bit-mono false b h = omega arith
 
-pub count-mono : (p q : ℕ → Bool) (n : ℕ) → ((i : ℕ) → 1 ≤ i → i ≤ n → p i ≡ true → q i ≡ true) → count p n ≤ count q n
+pub count-mono : (p q : ℕ → Bool) (n : ℕ) → ((i : ℕ) → 1 ≤ i → i ≤ n → p i ≡ true → q i ≡ true) → countUpTo p n ≤ countUpTo q n
 count-mono p q zero h = omega arith
 count-mono p q (suc n) h =
     omega (arith, bit-mono (p (suc n)) (q (suc n)) (h (suc n) (omega arith) (omega arith)), count-mono p q n (λ i l u. h i l (omega arith)))
 
 -- those that pass p are those that pass q too and those that do not
-bit-split : (a b : Bool) → bit (a && not b) + bit (a && b) ≡ bit a
+bit-split : (a b : Bool) → indicator (a && not b) + indicator (a && b) ≡ indicator a
 bit-split true true = refl
 bit-split true false = refl
 bit-split false true = refl
 bit-split false false = refl
 
-pub count-split : (p q : ℕ → Bool) (n : ℕ) → count (λ i. p i && not (q i)) n + count (λ i. p i && q i) n ≡ count p n
+pub count-split : (p q : ℕ → Bool) (n : ℕ) → countUpTo (λ i. p i && not (q i)) n + countUpTo (λ i. p i && q i) n ≡ countUpTo p n
 count-split p q zero = refl
 count-split p q (suc n) = omega (arith, bit-split (p (suc n)) (q (suc n)), count-split p q n)
 
-count-never : (n : ℕ) → count (λ i. false) n ≡ 0
+count-never : (n : ℕ) → countUpTo (λ i. false) n ≡ 0
 count-never zero = refl
 count-never (suc n) = omega (arith, count-never n)
 
-pub count-none : (p : ℕ → Bool) (n : ℕ) → ((i : ℕ) → 1 ≤ i → i ≤ n → p i ≡ true → ⊥) → count p n ≡ 0
+pub count-none : (p : ℕ → Bool) (n : ℕ) → ((i : ℕ) → 1 ≤ i → i ≤ n → p i ≡ true → ⊥) → countUpTo p n ≡ 0
 count-none p n h = omega (arith, count-mono p (λ i. false) n (λ i l u t. absurd (h i l u t)), count-never n)
 
 -- what passes is counted
-pub count-some : (p : ℕ → Bool) (n i : ℕ) → 1 ≤ i → i ≤ n → p i ≡ true → 0 < count p n
+pub count-some : (p : ℕ → Bool) (n i : ℕ) → 1 ≤ i → i ≤ n → p i ≡ true → 0 < countUpTo p n
 count-some p zero i l u e = absurd (omega arith)
 count-some p (suc n) i l u e = go (λ b. count-some p n i l b e) (last-or i n u)
   where
-    go : (i ≤ n → 0 < count p n) → (i ≡ suc n) ⊎ (i ≤ n) → 0 < count p n + bit (p (suc n))
-    go rest (inl s) = omega (arith, ap bit (subst (λ (x : ℕ). p x ≡ true) s e))
+    go : (i ≤ n → 0 < countUpTo p n) → (i ≡ suc n) ⊎ (i ≤ n) → 0 < countUpTo p n + indicator (p (suc n))
+    go rest (inl s) = omega (arith, ap indicator (subst (λ (x : ℕ). p x ≡ true) s e))
     go rest (inr b) = omega (arith, rest b)
 
-pub count-before : (p : ℕ → Bool) (n i : ℕ) → 1 ≤ i → i ≤ n → p i ≡ true → count p (i - 1) < count p n
+pub count-before : (p : ℕ → Bool) (n i : ℕ) → 1 ≤ i → i ≤ n → p i ≡ true → countUpTo p (i - 1) < countUpTo p n
 count-before p zero i l u e = absurd (omega arith)
 count-before p (suc n) i l u e = go (λ b. count-before p n i l b e) (last-or i n u)
   where
-    go : (i ≤ n → count p (i - 1) < count p n) → (i ≡ suc n) ⊎ (i ≤ n) → count p (i - 1) < count p n + bit (p (suc n))
+    go : (i ≤ n → countUpTo p (i - 1) < countUpTo p n) → (i ≡ suc n) ⊎ (i ≤ n) → countUpTo p (i - 1) < countUpTo p n + indicator (p (suc n))
     go rest (inl s) =
         let z : i - 1 ≡ n = omega arith in
-        omega (arith, ap bit (subst (λ (x : ℕ). p x ≡ true) s e), ap (count p) z)
+        omega (arith, ap indicator (subst (λ (x : ℕ). p x ≡ true) s e), ap (countUpTo p) z)
     go rest (inr b) = omega (arith, rest b)
 
 -- ---- whether any passes
@@ -99,38 +99,38 @@ pub record Found (p : ℕ → Bool) (n : ℕ) : Type 0 where
   pub high : at ≤ n
   pub passes : p at ≡ true
 
-pub found : (p : ℕ → Bool) (n : ℕ) → 0 < count p n → Found p n
+pub found : (p : ℕ → Bool) (n : ℕ) → 0 < countUpTo p n → Found p n
 found p zero h = absurd (omega arith)
 found p (suc n) h = go (found p n) (p (suc n)) refl
   where
-    go : (0 < count p n → Found p n) → (b : Bool) → p (suc n) ≡ b → Found p (suc n)
+    go : (0 < countUpTo p n → Found p n) → (b : Bool) → p (suc n) ≡ b → Found p (suc n)
     go rest true e = record { at = suc n; low = omega arith; high = omega arith; passes = e }
     go rest false e =
-        let f : Found p n = rest (omega (arith, ap bit e)) in
+        let f : Found p n = rest (omega (arith, ap indicator e)) in
         record { at = f .at; low = f .low; high = omega arith; passes = f .passes }
 
-pub any-found : (p : ℕ → Bool) (n : ℕ) → any p n ≡ true → Found p n
+pub any-found : (p : ℕ → Bool) (n : ℕ) → anyUpTo p n ≡ true → Found p n
 any-found p zero h = absurd (true≢false (sym h))
-any-found p (suc n) h = go (any-found p n) (or-cases (any p n) (p (suc n)) h)
+any-found p (suc n) h = go (any-found p n) (or-cases (anyUpTo p n) (p (suc n)) h)
   where
-    go : (any p n ≡ true → Found p n) → (any p n ≡ true) ⊎ (p (suc n) ≡ true) → Found p (suc n)
+    go : (anyUpTo p n ≡ true → Found p n) → (anyUpTo p n ≡ true) ⊎ (p (suc n) ≡ true) → Found p (suc n)
     go rest (inl e) =
         let f : Found p n = rest e in
         record { at = f .at; low = f .low; high = omega arith; passes = f .passes }
     go rest (inr e) = record { at = suc n; low = omega arith; high = omega arith; passes = e }
 
-pub any-some : (p : ℕ → Bool) (n i : ℕ) → 1 ≤ i → i ≤ n → p i ≡ true → any p n ≡ true
+pub any-some : (p : ℕ → Bool) (n i : ℕ) → 1 ≤ i → i ≤ n → p i ≡ true → anyUpTo p n ≡ true
 any-some p zero i l u e = absurd (omega arith)
 any-some p (suc n) i l u e = go (λ b. any-some p n i l b e) (last-or i n u)
   where
-    go : (i ≤ n → any p n ≡ true) → (i ≡ suc n) ⊎ (i ≤ n) → any p n || p (suc n) ≡ true
-    go rest (inl s) = or-second (any p n) (subst (λ (x : ℕ). p x ≡ true) s e)
+    go : (i ≤ n → anyUpTo p n ≡ true) → (i ≡ suc n) ⊎ (i ≤ n) → anyUpTo p n || p (suc n) ≡ true
+    go rest (inl s) = or-second (anyUpTo p n) (subst (λ (x : ℕ). p x ≡ true) s e)
     go rest (inr b) = or-first (p (suc n)) (rest b)
 
-pub any-none : (p : ℕ → Bool) (n : ℕ) → ((i : ℕ) → 1 ≤ i → i ≤ n → p i ≡ true → ⊥) → any p n ≡ false
-any-none p n h = not-passed (any p n) (λ e. let f : Found p n = any-found p n e in h (f .at) (f .low) (f .high) (f .passes))
+pub any-none : (p : ℕ → Bool) (n : ℕ) → ((i : ℕ) → 1 ≤ i → i ≤ n → p i ≡ true → ⊥) → anyUpTo p n ≡ false
+any-none p n h = not-passed (anyUpTo p n) (λ e. let f : Found p n = any-found p n e in h (f .at) (f .low) (f .high) (f .passes))
 
-pub any-ext : (p q : ℕ → Bool) (n : ℕ) → ((i : ℕ) → 1 ≤ i → i ≤ n → p i ≡ q i) → any p n ≡ any q n
+pub any-ext : (p q : ℕ → Bool) (n : ℕ) → ((i : ℕ) → 1 ≤ i → i ≤ n → p i ≡ q i) → anyUpTo p n ≡ anyUpTo q n
 any-ext p q zero h = refl
 any-ext p q (suc n) h =
     ap₂ _||_ (any-ext p q n (λ i l u. h i l (omega arith))) (h (suc n) (omega arith) (omega arith))

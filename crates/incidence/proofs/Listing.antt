@@ -8,17 +8,17 @@ use native.Mathlib.Omega.{arith}
 use lib.ListN.{length, getD, length-append, List·getD-append}
 use lib.Seq.{getD-at}
 use Rattle.cipher.specs.Block.{if_then_else_}
-use Rattle.incidence.specs.Count.{bit, count, listed}
+use Rattle.incidence.specs.Count.{indicator, countUpTo, listed}
 use Rattle.incidence.specs.Family.{Family, rowsOf, itemsOf}
 use Rattle.incidence.proofs.Counting.{last-or, count-before}
 use Rattle.incidence.proofs.Booleans.{not-both}
 
-pub listed-length : (p : ℕ → Bool) (n : ℕ) → length (listed p n) ≡ count p n
+pub listed-length : (p : ℕ → Bool) (n : ℕ) → length (listed p n) ≡ countUpTo p n
 listed-length p zero = refl
 listed-length p (suc n) = go (listed-length p n) (p (suc n))
   where
-    go : length (listed p n) ≡ count p n → (b : Bool)
-        → length (if b then listed p n ++ (suc n ∷ []) else listed p n) ≡ count p n + bit b
+    go : length (listed p n) ≡ countUpTo p n → (b : Bool)
+        → length (if b then listed p n ++ (suc n ∷ []) else listed p n) ≡ countUpTo p n + indicator b
     go ih true = length-append (listed p n) (suc n ∷ []) ∙ ap (λ (x : ℕ). x + 1) ih
     go ih false = omega arith
 
@@ -29,18 +29,18 @@ listed-ext p q (suc n) h =
     (listed-ext p q n (λ i l u. h i l (omega arith)))
 
 -- a number that passes stands behind those before it that do
-pub listed-rank : (p : ℕ → Bool) (n i : ℕ) → 1 ≤ i → i ≤ n → p i ≡ true → getD (listed p n) (count p (i - 1)) 0 ≡ i
+pub listed-rank : (p : ℕ → Bool) (n i : ℕ) → 1 ≤ i → i ≤ n → p i ≡ true → getD (listed p n) (countUpTo p (i - 1)) 0 ≡ i
 listed-rank p zero i l u e = absurd (omega arith)
 listed-rank p (suc n) i l u e = go (λ b. listed-rank p n i l b e) (last-or i n u) (p (suc n)) refl
   where
-    go : (i ≤ n → getD (listed p n) (count p (i - 1)) 0 ≡ i) → (i ≡ suc n) ⊎ (i ≤ n) → (b : Bool) → p (suc n) ≡ b
-        → getD (if b then listed p n ++ (suc n ∷ []) else listed p n) (count p (i - 1)) 0 ≡ i
+    go : (i ≤ n → getD (listed p n) (countUpTo p (i - 1)) 0 ≡ i) → (i ≡ suc n) ⊎ (i ≤ n) → (b : Bool) → p (suc n) ≡ b
+        → getD (if b then listed p n ++ (suc n ∷ []) else listed p n) (countUpTo p (i - 1)) 0 ≡ i
     go rest (inl s) true t =
         let z : i - 1 ≡ n = omega arith in
-        getD-at (listed p n) (suc n) [] 0 (count p (i - 1)) (listed-length p n ∙ ap (count p) (sym z)) ∙ sym s
+        getD-at (listed p n) (suc n) [] 0 (countUpTo p (i - 1)) (listed-length p n ∙ ap (countUpTo p) (sym z)) ∙ sym s
     go rest (inl s) false t = absurd (not-both (p (suc n)) (subst (λ (x : ℕ). p x ≡ true) s e) t)
     go rest (inr b) true t =
-        List·getD-append (listed p n) (suc n ∷ []) 0 (count p (i - 1)) (omega (arith, listed-length p n, count-before p n i l b e)) ∙ rest b
+        List·getD-append (listed p n) (suc n ∷ []) 0 (countUpTo p (i - 1)) (omega (arith, listed-length p n, count-before p n i l b e)) ∙ rest b
     go rest (inr b) false t = rest b
 
 -- x is the member at place k: inside, passing, and with k before it
@@ -48,25 +48,25 @@ pub record Member (p : ℕ → Bool) (n k x : ℕ) : Type 0 where
   pub low : 1 ≤ x
   pub high : x ≤ n
   pub passes : p x ≡ true
-  pub rank : count p (x - 1) ≡ k
+  pub rank : countUpTo p (x - 1) ≡ k
 
-pub listed-at : (p : ℕ → Bool) (n k : ℕ) → k < count p n → Member p n k (getD (listed p n) k 0)
+pub listed-at : (p : ℕ → Bool) (n k : ℕ) → k < countUpTo p n → Member p n k (getD (listed p n) k 0)
 listed-at p zero k h = absurd (omega arith)
 listed-at p (suc n) k h = go (listed-at p n k) (p (suc n)) refl
   where
     wider : (x : ℕ) → Member p n k x → Member p (suc n) k x
     wider x m = record { low = m .low; high = omega arith; passes = m .passes; rank = m .rank }
 
-    go : (k < count p n → Member p n k (getD (listed p n) k 0)) → (b : Bool) → p (suc n) ≡ b
+    go : (k < countUpTo p n → Member p n k (getD (listed p n) k 0)) → (b : Bool) → p (suc n) ≡ b
         → Member p (suc n) k (getD (if b then listed p n ++ (suc n ∷ []) else listed p n) k 0)
-    go rest false t = wider _ (rest (omega (arith, ap bit t)))
-    go rest true t = last (last-or (suc k) (count p n) (omega (arith, ap bit t)))
+    go rest false t = wider _ (rest (omega (arith, ap indicator t)))
+    go rest true t = last (last-or (suc k) (countUpTo p n) (omega (arith, ap indicator t)))
       where
-        last : (suc k ≡ suc (count p n)) ⊎ (suc k ≤ count p n) → Member p (suc n) k (getD (listed p n ++ (suc n ∷ [])) k 0)
+        last : (suc k ≡ suc (countUpTo p n)) ⊎ (suc k ≤ countUpTo p n) → Member p (suc n) k (getD (listed p n ++ (suc n ∷ [])) k 0)
         last (inl s) =
             let z : suc n - 1 ≡ n = omega arith in
             rw (getD-at (listed p n) (suc n) [] 0 k (omega (arith, listed-length p n)))
-            (record { low = omega arith; high = omega arith; passes = t; rank = omega (arith, ap (count p) z) })
+            (record { low = omega arith; high = omega arith; passes = t; rank = omega (arith, ap (countUpTo p) z) })
         last (inr b) = rw (List·getD-append (listed p n) (suc n ∷ []) 0 k (omega (arith, listed-length p n))) (wider _ (rest b))
 
 -- the rows of an item and the items of a row
@@ -81,6 +81,6 @@ module _ (F : Family) (j k : ℕ) where
 
 -- each is listed, and once: at the place that counts those before it
 module _ (F : Family) (i j : ℕ) (l : 1 ≤ i) (o : F .on i j ≡ true) where
-  pub rowsOf-rank : i ≤ F .rows → getD (rowsOf F j) (count (λ r. F .on r j) (i - 1)) 0 ≡ i
+  pub rowsOf-rank : i ≤ F .rows → getD (rowsOf F j) (countUpTo (λ r. F .on r j) (i - 1)) 0 ≡ i
   unfolding rowsOf
   rowsOf-rank u = listed-rank (λ r. F .on r j) (F .rows) i l u o

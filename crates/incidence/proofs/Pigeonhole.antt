@@ -4,7 +4,7 @@ use mathlib.Core.Bool.{Bool, true, false, not, _&&_, true≢false}
 use mathlib.Core.Logic.{_⊎_, inl, inr}
 use Prim.Native.Nat.{ℕ, zero, suc, _+_, _≤_, _<_}
 use native.Mathlib.Omega.{arith}
-use Rattle.incidence.specs.Count.{bit, count}
+use Rattle.incidence.specs.Count.{indicator, countUpTo}
 use Rattle.incidence.specs.Family.{Family, Disjunct}
 use Rattle.incidence.proofs.Booleans.{and-left, and-right, and-both, not-both}
 use Rattle.incidence.proofs.Counting.{Found, last-or, found, count-mono, count-none, count-split}
@@ -35,15 +35,15 @@ module _ (v : ℕ) (on : ℕ → ℕ → Bool) where
           rw e (nand (set (suc n)) (on i (suc n)) (and-right (left p set n i) (not (set (suc n) && on i (suc n))) h) (rw (← e) c))
 
   -- an item of the set takes at most one of the rows
-  taken : (p set : ℕ → Bool) (n : ℕ) → ((set (suc n) ≡ true) → count (λ i. p i && on i (suc n)) v ≤ 1)
-      → count (λ i. left p set n i && (set (suc n) && on i (suc n))) v ≤ bit (set (suc n))
+  taken : (p set : ℕ → Bool) (n : ℕ) → ((set (suc n) ≡ true) → countUpTo (λ i. p i && on i (suc n)) v ≤ 1)
+      → countUpTo (λ i. left p set n i && (set (suc n) && on i (suc n))) v ≤ indicator (set (suc n))
   taken p set n h = go (set (suc n)) refl
     where
-      go : (b : Bool) → set (suc n) ≡ b → count (λ i. left p set n i && (set (suc n) && on i (suc n))) v ≤ bit (set (suc n))
+      go : (b : Bool) → set (suc n) ≡ b → countUpTo (λ i. left p set n i && (set (suc n) && on i (suc n))) v ≤ indicator (set (suc n))
       go true e =
           omega (
             arith,
-            ap bit e,
+            ap indicator e,
             h e,
             count-mono (λ i. left p set n i && (set (suc n) && on i (suc n))) (λ i. p i && on i (suc n)) v
                 (λ i l u t. and-both (left-passes p set n i (and-left _ _ t)) (and-right (set (suc n)) _ (and-right (left p set n i) _ t))),
@@ -57,8 +57,8 @@ module _ (v : ℕ) (on : ℕ → ℕ → Bool) where
 
   -- so at most as many rows are lost as the set has items
   left-count : (p set : ℕ → Bool) (n : ℕ)
-      → ((k : ℕ) → 1 ≤ k → k ≤ n → set k ≡ true → count (λ i. p i && on i k) v ≤ 1)
-      → count p v ≤ count (left p set n) v + count set n
+      → ((k : ℕ) → 1 ≤ k → k ≤ n → set k ≡ true → countUpTo (λ i. p i && on i k) v ≤ 1)
+      → countUpTo p v ≤ countUpTo (left p set n) v + countUpTo set n
   left-count p set zero h = omega arith
   left-count p set (suc n) h =
       omega (
@@ -69,8 +69,8 @@ module _ (v : ℕ) (on : ℕ → ℕ → Bool) where
       )
 
 pub pigeonhole : (F : Family) (d : ℕ)
-    → ((j : ℕ) → 1 ≤ j → j ≤ F .items → d < count (λ i. F .on i j) (F .rows))
-    → ((j k : ℕ) → 1 ≤ j → j ≤ F .items → 1 ≤ k → k ≤ F .items → (k ≡ j → ⊥) → count (λ i. F .on i j && F .on i k) (F .rows) ≤ 1)
+    → ((j : ℕ) → 1 ≤ j → j ≤ F .items → d < countUpTo (λ i. F .on i j) (F .rows))
+    → ((j k : ℕ) → 1 ≤ j → j ≤ F .items → 1 ≤ k → k ≤ F .items → (k ≡ j → ⊥) → countUpTo (λ i. F .on i j && F .on i k) (F .rows) ≤ 1)
     → Disjunct F d
 pigeonhole F d many few set small j l u out =
     let f : Found (left v on p set n) v =

@@ -1,11 +1,10 @@
 -- What demand 3, as `Detects` states it, rules out by itself, whatever the family and the code: a report that names every item, one that
 -- names none, and one that always says "beyond". And how the statement passes to what is equal to it or asks for more.
-use mathlib.Core.Path.{_≡_, refl, ap, _∙_}
+use mathlib.Core.Path.{_≡_, refl, _∙_}
 use mathlib.Core.Bool.{Bool, true, false}
 use Prim.Native.Nat.{ℕ, _≤_, _<_}
 use native.Mathlib.Omega.{arith}
-use Rattle.incidence.specs.Count.{count}
-use Rattle.incidence.specs.Report.{number}
+use Rattle.incidence.specs.Count.{countUpTo}
 use Rattle.incidence.specs.Detection.{Detects}
 use Rattle.incidence.specs.declared.Answer.{Answer}
 use Rattle.incidence.specs.declared.Answer.the-variants.{Intact, Beyond}
@@ -14,19 +13,21 @@ use Rattle.incidence.proofs.Counting.{Found, found}
 
 module _ (d n : ℕ) (C : Type 0) (changed : ℕ → Bool) (said : Answer) where
   -- an unchanged item, and no more changes than the limit
-  pub not-all-named : (j : ℕ) → 1 ≤ j → j ≤ n → changed j ≡ false → count changed n ≤ d → Detects d n C changed (λ i. true) said → ⊥
+  pub not-all-named : (j : ℕ) → 1 ≤ j → j ≤ n → changed j ≡ false → countUpTo changed n ≤ d → Detects d n C changed (λ i. true) said → ⊥
   not-all-named j l u same few D = not-both true refl (D .spares few j l u same)
 
   -- a changed item, and no row that cancels
-  pub not-none-named : C → 0 < count changed n → Detects d n C changed (λ i. false) said → ⊥
+  pub not-none-named : C → 0 < countUpTo changed n → Detects d n C changed (λ i. false) said → ⊥
   not-none-named c h D =
       let f : Found changed n = found changed n h in
       not-both false (D .finds c (f .at) (f .low) (f .high) (f .passes)) refl
 
 -- an unchanged message
-pub not-always-beyond : (d n : ℕ) (C : Type 0) (changed marked : ℕ → Bool) → C → count changed n ≡ 0 → Detects d n C changed marked Beyond → ⊥
+pub not-always-beyond : (d n : ℕ) (C : Type 0) (changed marked : ℕ → Bool) → C → countUpTo changed n ≡ 0 → Detects d n C changed marked Beyond → ⊥
 not-always-beyond d n C changed marked c none D =
-    let e : number Beyond ≡ number Intact = ap number (D .intact c .1 none) in omega arith
+    let e : Beyond ≡ Intact = D .intact c .1 none in
+    let z : _≡_ {A = ℕ} 0 1 = cc in
+    omega arith
 
 -- ---- passing on
 

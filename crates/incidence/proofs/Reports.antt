@@ -1,38 +1,73 @@
 -- The three answers of a report, each with its case.
 use mathlib.Core.Path.{_≡_, refl, sym, ap, _∙_}
-use mathlib.Core.Bool.{Bool, true, false}
+use mathlib.Core.Bool.{Bool, true, false, not, _&&_, true≢false}
 use mathlib.Core.Logic.{_↔_}
 use Prim.Native.Nat.{ℕ, _≤_, _<_}
 use native.Mathlib.Omega.{arith}
 use lib.Dec.{eqb, leb}
 use borrow.Author.Tests.{eqb-true, eqb-false, leb-true, leb-false, eq-eqb, ne-eqb, le-leb, lt-leb}
-use Rattle.incidence.specs.Report.{answerBy, number}
+use Rattle.cipher.specs.Block.{if_then_else_}
+use Rattle.incidence.specs.Report.{meaning, answerBy}
 use Rattle.incidence.specs.declared.Answer.{Answer}
 use Rattle.incidence.specs.declared.Answer.the-variants.{Intact, Named, Beyond}
 
-pub answer-intact : (d rows names : ℕ) (stray : Bool) → rows ≡ 0 → answerBy d rows names stray ≡ Intact
+pub answer-intact : (d rows names : ℕ) (found : Bool) → rows ≡ 0 → answerBy d rows names found ≡ Intact
 unfolding answerBy
-answer-intact d rows names stray h = rw (eq-eqb rows 0 h)
+answer-intact d rows names found h = rw (eq-eqb rows 0 h)
 
-pub answer-named : (d rows names : ℕ) (stray : Bool) → 0 < rows → 1 ≤ names → names ≤ d → stray ≡ false → answerBy d rows names stray ≡ Named
+pub answer-named : (d rows names : ℕ) (found : Bool) → 0 < rows → 1 ≤ names → names ≤ d → found ≡ false → answerBy d rows names found ≡ Named
 unfolding answerBy
-answer-named d rows names stray b l u s =
+answer-named d rows names found b l u s =
     let z : rows ≡ 0 → ⊥ = omega arith in
     rw (ne-eqb rows 0 z, le-leb 1 names l, le-leb names d u, s)
 
-pub answer-beyond : (d rows names : ℕ) (stray : Bool) → 0 < rows → d < names → answerBy d rows names stray ≡ Beyond
+pub answer-beyond : (d rows names : ℕ) (found : Bool) → 0 < rows → d < names → answerBy d rows names found ≡ Beyond
 unfolding answerBy
-answer-beyond d rows names stray b u =
+answer-beyond d rows names found b u =
     let z : rows ≡ 0 → ⊥ = omega arith in
     rw (ne-eqb rows 0 z, le-leb 1 names (omega arith), lt-leb names d u)
+
+-- what each answer says, by whether no row disagrees and whether the names explain the rows
+abbrev saying : Answer → Bool → Bool → Bool
+saying Intact b t = b
+saying Named b t = not b && t
+saying Beyond b t = not b && not t
+
+said-so : (a : Answer) (d rows names : ℕ) (found : Bool) → meaning a .says d rows names found ≡ saying a (eqb rows 0) ((leb 1 names && leb names d) && not found)
+said-so Intact d rows names found = refl
+said-so Named d rows names found = refl
+said-so Beyond d rows names found = refl
+
+-- of the three answers, exactly the one given says so
+pub says-answer : (a : Answer) (d rows names : ℕ) (found : Bool) → (meaning a .says d rows names found ≡ true) ↔ (a ≡ answerBy d rows names found)
+unfolding answerBy
+says-answer a d rows names found =
+    let b = eqb rows 0 in
+    let t = (leb 1 names && leb names d) && not found in
+    ((λ h. only a b t (sym (said-so a d rows names found) ∙ h)), (λ e. said-so a d rows names found ∙ ap (λ (x : Answer). saying x b t) e ∙ says b t))
+  where
+    only : (a : Answer) (b t : Bool) → saying a b t ≡ true → a ≡ (if b then Intact else (if not b && t then Named else Beyond))
+    only Intact true t h = refl
+    only Intact false t h = absurd (true≢false (sym h))
+    only Named true t h = absurd (true≢false (sym h))
+    only Named false true h = refl
+    only Named false false h = absurd (true≢false (sym h))
+    only Beyond true t h = absurd (true≢false (sym h))
+    only Beyond false true h = absurd (true≢false (sym h))
+    only Beyond false false h = refl
+
+    says : (b t : Bool) → saying (if b then Intact else (if not b && t then Named else Beyond)) b t ≡ true
+    says true t = refl
+    says false true = refl
+    says false false = refl
 
 -- one of three answers for each of three cases that exclude each other: each exactly in its case
 pub threeways : (d x : ℕ) (a : Answer) → (x ≡ 0 → a ≡ Intact) → (1 ≤ x → x ≤ d → a ≡ Named) → (d < x → a ≡ Beyond)
     → ((a ≡ Intact) ↔ (x ≡ 0)) × ((a ≡ Named) ↔ ((1 ≤ x) × (x ≤ d))) × ((a ≡ Beyond) ↔ (d < x))
 threeways d x a f g h = go (eqb x 0) refl (leb x d) refl
   where
-    differ : (b c : Answer) → (number b ≡ number c → ⊥) → a ≡ b → a ≡ c → ⊥
-    differ b c ne p q = ne (ap number (sym p ∙ q))
+    differ : (b c : Answer) → (meaning b .ordinal ≡ meaning c .ordinal → ⊥) → a ≡ b → a ≡ c → ⊥
+    differ b c ne p q = ne (ap (λ (x : Answer). meaning x .ordinal) (sym p ∙ q))
 
     go : (b : Bool) → eqb x 0 ≡ b → (c : Bool) → leb x d ≡ c
         → ((a ≡ Intact) ↔ (x ≡ 0)) × ((a ≡ Named) ↔ ((1 ≤ x) × (x ≤ d))) × ((a ≡ Beyond) ↔ (d < x))

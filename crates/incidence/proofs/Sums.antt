@@ -12,7 +12,7 @@ use borrow.Author.Tests.{eqb-true, eqb-false}
 use Rattle.cipher.specs.Block.{if_then_else_, _⊕_, zeros}
 use Rattle.cipher.proofs.Xor.{⊕-comm, ⊕-assoc, ⊕-length, ⊕-self, ⊕-zeros, ⊕-cancel}
 use Rattle.incidence.specs.Family.{Family, Lawful, Earlier, parity}
-use Rattle.incidence.specs.Sum.{sumOver, rowSum, sumOf, hadBy, had}
+use Rattle.incidence.specs.Sum.{sumOver, rowSum, sumOf, expandedIn, expanded}
 use Rattle.incidence.proofs.Counting.{last-or}
 
 -- a value at every place
@@ -165,41 +165,41 @@ module _ (F : Family) (L : Lawful F) where
   -- sums that add up are had back from the tags'
   module _ (tagged sum : ℕ → List ℕ) (tags : (k : ℕ) → 1 ≤ k → k ≤ F .tags → tagged k ≡ sum (F .rowOfTag k))
       (made : (i : ℕ) → 1 ≤ i → i ≤ F .rows → F .tagOfRow i ≡ 0 → sum i ≡ sumOf sum (F .made i)) where
-    had-by : (n i : ℕ) → 1 ≤ i → i ≤ n → i ≤ F .rows → hadBy F tagged n i ≡ sum i
-    unfolding hadBy
-    had-by zero i a b u = absurd (omega arith)
-    had-by (suc n) i a b u = go (λ r c d. had-by n r c d) (eqb (F .tagOfRow i) 0) refl
+    expanded-in : (n i : ℕ) → 1 ≤ i → i ≤ n → i ≤ F .rows → expandedIn F tagged n i ≡ sum i
+    unfolding expandedIn
+    expanded-in zero i a b u = absurd (omega arith)
+    expanded-in (suc n) i a b u = go (λ r c d. expanded-in n r c d) (eqb (F .tagOfRow i) 0) refl
       where
-        go : ((r : ℕ) → 1 ≤ r → r ≤ n → r ≤ F .rows → hadBy F tagged n r ≡ sum r) → (t : Bool) → eqb (F .tagOfRow i) 0 ≡ t
-            → (if t then sumOf (hadBy F tagged n) (F .made i) else tagged (F .tagOfRow i)) ≡ sum i
+        go : ((r : ℕ) → 1 ≤ r → r ≤ n → r ≤ F .rows → expandedIn F tagged n r ≡ sum r) → (t : Bool) → eqb (F .tagOfRow i) 0 ≡ t
+            → (if t then sumOf (expandedIn F tagged n) (F .made i) else tagged (F .tagOfRow i)) ≡ sum i
         go ih true e =
             let z : F .tagOfRow i ≡ 0 = eqb-true _ 0 e in
-            sumOf-ext i (hadBy F tagged n) sum (F .made i) (L .earlier i a u z) (λ r c d. ih r c (omega arith) (omega arith)) ∙ sym (made i a u z)
+            sumOf-ext i (expandedIn F tagged n) sum (F .made i) (L .earlier i a u z) (λ r c d. ih r c (omega arith) (omega arith)) ∙ sym (made i a u z)
         go ih false e =
             let z : F .tagOfRow i ≡ 0 → ⊥ = eqb-false _ 0 e in
             tags (F .tagOfRow i) (omega arith) (L .tag-high i a u) ∙ ap sum (L .row-back i a u (omega arith))
 
-    pub had-all : (i : ℕ) → 1 ≤ i → i ≤ F .rows → had F tagged i ≡ sum i
-    unfolding had
-    had-all i a u = had-by i i a (omega arith) u
+    pub expanded-all : (i : ℕ) → 1 ≤ i → i ≤ F .rows → expanded F tagged i ≡ sum i
+    unfolding expanded
+    expanded-all i a u = expanded-in i i a (omega arith) u
 
   -- the tags' sums alone say what is had
-  had-by-ext : (s z : ℕ → List ℕ) → ((k : ℕ) → 1 ≤ k → k ≤ F .tags → s k ≡ z k) → (n i : ℕ) → 1 ≤ i → i ≤ F .rows → hadBy F s n i ≡ hadBy F z n i
-  unfolding hadBy
-  had-by-ext s z h zero i a u = refl
-  had-by-ext s z h (suc n) i a u = go (λ r c d. had-by-ext s z h n r c d) (eqb (F .tagOfRow i) 0) refl
+  expanded-in-ext : (s z : ℕ → List ℕ) → ((k : ℕ) → 1 ≤ k → k ≤ F .tags → s k ≡ z k) → (n i : ℕ) → 1 ≤ i → i ≤ F .rows → expandedIn F s n i ≡ expandedIn F z n i
+  unfolding expandedIn
+  expanded-in-ext s z h zero i a u = refl
+  expanded-in-ext s z h (suc n) i a u = go (λ r c d. expanded-in-ext s z h n r c d) (eqb (F .tagOfRow i) 0) refl
     where
-      go : ((r : ℕ) → 1 ≤ r → r ≤ F .rows → hadBy F s n r ≡ hadBy F z n r) → (t : Bool) → eqb (F .tagOfRow i) 0 ≡ t
-          → (if t then sumOf (hadBy F s n) (F .made i) else s (F .tagOfRow i)) ≡ (if t then sumOf (hadBy F z n) (F .made i) else z (F .tagOfRow i))
-      go ih true e = sumOf-ext i (hadBy F s n) (hadBy F z n) (F .made i) (L .earlier i a u (eqb-true _ 0 e)) (λ r c d. ih r c (omega arith))
+      go : ((r : ℕ) → 1 ≤ r → r ≤ F .rows → expandedIn F s n r ≡ expandedIn F z n r) → (t : Bool) → eqb (F .tagOfRow i) 0 ≡ t
+          → (if t then sumOf (expandedIn F s n) (F .made i) else s (F .tagOfRow i)) ≡ (if t then sumOf (expandedIn F z n) (F .made i) else z (F .tagOfRow i))
+      go ih true e = sumOf-ext i (expandedIn F s n) (expandedIn F z n) (F .made i) (L .earlier i a u (eqb-true _ 0 e)) (λ r c d. ih r c (omega arith))
       go ih false e = let y : F .tagOfRow i ≡ 0 → ⊥ = eqb-false _ 0 e in h (F .tagOfRow i) (omega arith) (L .tag-high i a u)
 
-  pub had-ext : (s z : ℕ → List ℕ) → ((k : ℕ) → 1 ≤ k → k ≤ F .tags → s k ≡ z k) → (i : ℕ) → 1 ≤ i → i ≤ F .rows → had F s i ≡ had F z i
-  unfolding had
-  had-ext s z h i a u = had-by-ext s z h i i a u
+  pub expanded-ext : (s z : ℕ → List ℕ) → ((k : ℕ) → 1 ≤ k → k ≤ F .tags → s k ≡ z k) → (i : ℕ) → 1 ≤ i → i ≤ F .rows → expanded F s i ≡ expanded F z i
+  unfolding expanded
+  expanded-ext s z h i a u = expanded-in-ext s z h i i a u
 
   -- a message's row sums are had back from those of its tagged rows
-  pub had-rowSum : (value : ℕ → List ℕ) → Values value → (n : ℕ) → n ≤ F .items → (i : ℕ) → 1 ≤ i → i ≤ F .rows
-      → had F (λ k. rowSum F value n (F .rowOfTag k)) i ≡ rowSum F value n i
-  had-rowSum value v n fits =
-      had-all (λ k. rowSum F value n (F .rowOfTag k)) (rowSum F value n) (λ k l u. refl) (rowSum-made F value v n L fits)
+  pub expanded-rowSum : (value : ℕ → List ℕ) → Values value → (n : ℕ) → n ≤ F .items → (i : ℕ) → 1 ≤ i → i ≤ F .rows
+      → expanded F (λ k. rowSum F value n (F .rowOfTag k)) i ≡ rowSum F value n i
+  expanded-rowSum value v n fits =
+      expanded-all (λ k. rowSum F value n (F .rowOfTag k)) (rowSum F value n) (λ k l u. refl) (rowSum-made F value v n L fits)

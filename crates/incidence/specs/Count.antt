@@ -7,19 +7,19 @@ use lib.Dec.{leb}
 use Rattle.cipher.specs.Block.{if_then_else_}
 
 -- 1 for a test that is passed
-abbrev pub bit : Bool → ℕ
-bit true = 1
-bit false = 0
+abbrev pub indicator : Bool → ℕ
+indicator true = 1
+indicator false = 0
 
 -- how many of the numbers 1 to n pass p
-abbrev pub count : (ℕ → Bool) → ℕ → ℕ
-count p zero = 0
-count p (suc n) = count p n + bit (p (suc n))
+abbrev pub countUpTo : (ℕ → Bool) → ℕ → ℕ
+countUpTo p zero = 0
+countUpTo p (suc n) = countUpTo p n + indicator (p (suc n))
 
 -- whether one of the numbers 1 to n passes p
-abbrev pub any : (ℕ → Bool) → ℕ → Bool
-any p zero = false
-any p (suc n) = any p n || p (suc n)
+abbrev pub anyUpTo : (ℕ → Bool) → ℕ → Bool
+anyUpTo p zero = false
+anyUpTo p (suc n) = anyUpTo p n || p (suc n)
 
 -- the numbers 1 to n that pass p, rising
 abbrev pub listed : (ℕ → Bool) → ℕ → List ℕ

@@ -5,24 +5,24 @@ use mathlib.Core.Path.{_≡_}
 use mathlib.Core.Bool.{Bool, true, false}
 use mathlib.Core.Logic.{_↔_}
 use Prim.Native.Nat.{ℕ, _≤_, _<_}
-use Rattle.incidence.specs.Count.{count}
+use Rattle.incidence.specs.Count.{countUpTo}
 use Rattle.incidence.specs.Family.{Family}
 use Rattle.incidence.specs.declared.Answer.{Answer}
 use Rattle.incidence.specs.declared.Answer.the-variants.{Intact, Named, Beyond}
 
 pub record Detects (d n : ℕ) (NoRowCancels : Type 0) (changed marked : ℕ → Bool) (said : Answer) : Type 0 where
   -- "While at most d cards differ, it names no unchanged card."
-  pub spares : count changed n ≤ d → (j : ℕ) → 1 ≤ j → j ≤ n → changed j ≡ false → marked j ≡ false
+  pub spares : countUpTo changed n ≤ d → (j : ℕ) → 1 ≤ j → j ≤ n → changed j ≡ false → marked j ≡ false
   -- "where no row .. it names every changed card, for any number of changes"
   pub finds : NoRowCancels → (j : ℕ) → 1 ≤ j → j ≤ n → changed j ≡ true → marked j ≡ true
   -- "up to d the named cards are exactly the changed ones"
-  pub exact : NoRowCancels → count changed n ≤ d → (j : ℕ) → 1 ≤ j → j ≤ n → marked j ≡ changed j
+  pub exact : NoRowCancels → countUpTo changed n ≤ d → (j : ℕ) → 1 ≤ j → j ≤ n → marked j ≡ changed j
   -- "the answer is "intact" exactly when none changed"
-  pub intact : NoRowCancels → (said ≡ Intact) ↔ (count changed n ≡ 0)
+  pub intact : NoRowCancels → (said ≡ Intact) ↔ (countUpTo changed n ≡ 0)
   -- ""named" exactly when 1 to d did"
-  pub named : NoRowCancels → (said ≡ Named) ↔ ((1 ≤ count changed n) × (count changed n ≤ d))
+  pub named : NoRowCancels → (said ≡ Named) ↔ ((1 ≤ countUpTo changed n) × (countUpTo changed n ≤ d))
   -- ""beyond" exactly when more did"
-  pub beyond : NoRowCancels → (said ≡ Beyond) ↔ (d < count changed n)
+  pub beyond : NoRowCancels → (said ≡ Beyond) ↔ (d < countUpTo changed n)
 
 -- a row without a changed item agrees
 abbrev pub QuietRowsAgree : Family → ℕ → (ℕ → Bool) → (ℕ → Bool) → Type 0

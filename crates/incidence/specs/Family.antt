@@ -4,7 +4,7 @@ use mathlib.Core.Path.{_≡_}
 use mathlib.Core.Bool.{Bool, true, false, xor}
 use mathlib.Core.List.{List, [], _∷_}
 use Prim.Native.Nat.{ℕ, _≤_, _<_}
-use Rattle.incidence.specs.Count.{count, listed}
+use Rattle.incidence.specs.Count.{countUpTo, listed}
 
 -- 000, 4.3: the matrix with its extension rule. Items, rows and tags are numbered from 1.
 pub record Family : Type 0 where
@@ -39,7 +39,7 @@ pub record Separates (F : Family) (set : ℕ → Bool) (j : ℕ) : Type 0 where
 -- 000, 2.1: d-disjunct. For any d or fewer items and another one, some row holds that one and none of them.
 abbrev pub Disjunct : Family → ℕ → Type 0
 Disjunct F d =
-    (set : ℕ → Bool) → count set (F .items) ≤ d → (j : ℕ) → 1 ≤ j → j ≤ F .items → set j ≡ false → Separates F set j
+    (set : ℕ → Bool) → countUpTo set (F .items) ≤ d → (j : ℕ) → 1 ≤ j → j ≤ F .items → set j ≡ false → Separates F set j
 
 -- the rows listed come before row i
 abbrev pub Earlier : ℕ → List ℕ → Type 0

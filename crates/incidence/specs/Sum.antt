@@ -1,4 +1,4 @@
--- Sums over rows (000, section 4.3): S[i] is the XOR of the items' values on row i, and (4) a row without a tag is had from the tagged ones.
+-- Sums over rows (000, section 4.3): S[i] is the XOR of the items' values on row i, and (4) a row without a tag is expanded from the tagged ones.
 -- A value is 16 bytes; places above n add nothing (document 01, Planes). Assumes nothing.
 use mathlib.Core.Bool.{Bool}
 use mathlib.Core.List.{List, [], _∷_}
@@ -22,10 +22,10 @@ sumOf sum [] = zeros 16
 sumOf sum (a ∷ rest) = sum a ⊕ sumOf sum rest
 
 -- row i's sum from the tags' sums, by at most n steps to earlier rows
-unfoldable pub hadBy : Family → (ℕ → List ℕ) → ℕ → ℕ → List ℕ
-hadBy F tagged zero i = zeros 16
-hadBy F tagged (suc n) i = if eqb (F .tagOfRow i) 0 then sumOf (hadBy F tagged n) (F .made i) else tagged (F .tagOfRow i)
+unfoldable pub expandedIn : Family → (ℕ → List ℕ) → ℕ → ℕ → List ℕ
+expandedIn F tagged zero i = zeros 16
+expandedIn F tagged (suc n) i = if eqb (F .tagOfRow i) 0 then sumOf (expandedIn F tagged n) (F .made i) else tagged (F .tagOfRow i)
 
 -- row i's sum from the tags' sums: its tag's, or the XOR of the rows that it is made of
-unfoldable pub had : Family → (ℕ → List ℕ) → ℕ → List ℕ
-had F tagged i = hadBy F tagged i i
+unfoldable pub expanded : Family → (ℕ → List ℕ) → ℕ → List ℕ
+expanded F tagged i = expandedIn F tagged i i

@@ -11,11 +11,11 @@ use borrow.Author.Tests.{le-leb}
 use Rattle.cipher.specs.Number.{number, bigEndian}
 use Rattle.cipher.proofs.Numbers.{bigEndian-length, number-bigEndian}
 use Rattle.files.specs.Refusals.{none}
-use Rattle.files.specs.Message.{number16, prefix, count, behind, start, size, item, refuse3, fits, refuseItems, refuse5}
-use Rattle.files.specs.Handed.{refuse7}
+use Rattle.files.specs.Message.{number16, prefix, itemCount, behind, itemStart, itemSize, item, refuse3, itemFits, refuseItems, refuse5}
+use Rattle.files.specs.Arguments.{refuse7}
 use Rattle.files.proofs.Passing.{unless-true, given}
 use Rattle.files.proofs.Messages.{header-right, fits-else, items-more, items-whole}
-use Rattle.packing.specs.Packing.{field, fields, messageOf, appended, beginRefusal, beginWrites}
+use Rattle.packing.specs.Packing.{field, fields, messageOf, appended, beginFileRefusal, beginFileWrites}
 
 -- ---- fields
 
@@ -66,15 +66,15 @@ message-more a b =
 pub few : (items : List (List ℕ)) → length (messageOf items) ≤ 65536 → length items < 65535
 few items h = omega (arith, message-length items, fields-low items)
 
-pub count-of : (items : List (List ℕ)) → length items < 65536 → count (messageOf items) ≡ length items
-unfolding count number16 messageOf prefix bigEndian
+pub count-of : (items : List (List ℕ)) → length items < 65536 → itemCount (messageOf items) ≡ length items
+unfolding itemCount number16 messageOf prefix bigEndian
 count-of items h = number-bigEndian 2 (length items) (omega arith)
 
 -- ---- begin and append
 
 -- Where there is room, `begin` writes the file without items and leaves what is behind.
-pub begins : (out : List ℕ) → 7 ≤ length out → (beginRefusal (length out) ≡ none) × (beginWrites out ≡ messageOf [] ++ drop 7 out)
-unfolding beginRefusal beginWrites refuse7
+pub begins : (out : List ℕ) → 7 ≤ length out → (beginFileRefusal (length out) ≡ none) × (beginFileWrites out ≡ messageOf [] ++ drop 7 out)
+unfolding beginFileRefusal beginFileWrites refuse7
 begins out h =
     let e = unless-true _ 7 0 (le-leb 7 (length out) h) in (
       e,
@@ -178,7 +178,7 @@ module _ (items : List (List ℕ)) (P : Packable items) where
       ∙ sym (message-length items)
 
   -- item k + 1 lies in the file
-  fits-here : (k : ℕ) → k < length items → fits s (behind s k) ≡ true
+  fits-here : (k : ℕ) → k < length items → itemFits s (behind s k) ≡ true
   unfolding s nth
   fits-here k h =
       let e = places k (omega arith) in
@@ -200,7 +200,7 @@ module _ (items : List (List ℕ)) (P : Packable items) where
 
 -- The file of items that fit one is not refused, and says how many they are.
 pub accepted : (items : List (List ℕ)) → Packable items
-    → (refuse3 (messageOf items) ≡ none) × (refuse5 (messageOf items) ≡ none) × (count (messageOf items) ≡ length items)
+    → (refuse3 (messageOf items) ≡ none) × (refuse5 (messageOf items) ≡ none) × (itemCount (messageOf items) ≡ length items)
 unfolding messageOf prefix s
 accepted items P =
     let m = message-length items in
@@ -213,7 +213,7 @@ accepted items P =
 
 -- Item j of the file is the j-th of the items.
 pub holds : (items : List (List ℕ)) → Packable items → (j : ℕ) → 1 ≤ j → j ≤ length items → item (messageOf items) j ≡ getD items (j - 1) []
-unfolding item start size s nth
+unfolding item itemStart itemSize s nth
 holds items P j low high =
     let k = j - 1 in
     let h : k < length items = omega arith in

@@ -9,8 +9,8 @@ use lib.ListN.{length, take, length-take}
 use borrow.Author.Tests.{leb-true, leb-false, le-leb, lt-leb, ltb-true}
 use Rattle.files.specs.declared.Refusal.{Refusal}
 use Rattle.files.specs.Refusals.{refusal, unless, first}
-use Rattle.files.specs.Message.{count, refuse3}
-use Rattle.files.specs.Handed.{refuse7, refuse9}
+use Rattle.files.specs.Message.{itemCount, refuse3}
+use Rattle.files.specs.Arguments.{refuse7, refuse9}
 use Rattle.files.proofs.Passing.{rest-passes, unless-false, unless-passes, number-of}
 use Rattle.files.proofs.Messages.{headed}
 use Rattle.packing.specs.Packing.{appendRefusal}
@@ -57,7 +57,7 @@ pub record Appendable (file : List ℕ) (n : ℕ) (item : List ℕ) : Type 0 whe
   pub room : n + 2 + length item ≤ length file
   pub low : 7 ≤ n
   pub size : n + 2 + length item ≤ 65536
-  pub more : count (take n file) < 65535
+  pub more : itemCount (take n file) < 65535
 
 pub appendable : (file : List ℕ) (n : ℕ) (item : List ℕ) (r : Refusal) → r ≡ appendRefusal file n item → r .number ≡ 0 → Appendable file n item
 unfolding appendRefusal refuse7 refuse9
@@ -66,7 +66,7 @@ appendable file n item r e h =
     let long = leb (length item) 1024 in
     let room = leb size (length file) in
     let whole = leb size 65536 in
-    let more = ltb (count (take n file)) 65535 in
+    let more = ltb (itemCount (take n file)) 65535 in
     let a = rest-passes (unless long 9 0) (unless room 7 0 ∷ refuse3 (take n file) ∷ unless whole 3 0 ∷ unless more 3 0 ∷ []) (number-of r _ e h) in
     let b = rest-passes (unless room 7 0) (refuse3 (take n file) ∷ unless whole 3 0 ∷ unless more 3 0 ∷ []) (a .1) in
     let d = rest-passes (refuse3 (take n file)) (unless whole 3 0 ∷ unless more 3 0 ∷ []) (b .1) in
@@ -78,5 +78,5 @@ appendable file n item r e h =
       room = leb-true size (length file) (unless-passes room 7 0 (omega arith) (b .0));
       low = omega (arith, length-take n file);
       size = leb-true size 65536 (unless-passes whole 3 0 (omega arith) (f .0));
-      more = ltb-true (count (take n file)) 65535 (unless-passes more 3 0 (omega arith) (g .0));
+      more = ltb-true (itemCount (take n file)) 65535 (unless-passes more 3 0 (omega arith) (g .0));
     }

@@ -11,10 +11,10 @@ use lib.Seq.{take-at, drop-at, drop-drop, getD-append-seam}
 use borrow.Author.Tests.{le-leb, lt-ltb}
 use Rattle.cipher.specs.Number.{bigEndian}
 use Rattle.files.specs.Refusals.{none, first}
-use Rattle.files.specs.Message.{prefix, count, refuse3}
-use Rattle.files.specs.Handed.{refuse7, refuse9}
+use Rattle.files.specs.Message.{prefix, itemCount, refuse3}
+use Rattle.files.specs.Arguments.{refuse7, refuse9}
 use Rattle.files.proofs.Passing.{unless-true, given}
-use Rattle.packing.specs.Packing.{fields, messageOf, appended, beginRefusal, beginWrites, appendRefusal, appendWrites, appendAll}
+use Rattle.packing.specs.Packing.{fields, messageOf, appended, beginFileRefusal, beginFileWrites, appendRefusal, appendWrites, appendAll}
 use Rattle.packing.proofs.Refusing.{room-tells, appendable}
 use Rattle.packing.proofs.Packed.{message-length, message-more, message-snoc, few, begins, appends, Packable, accepted}
 
@@ -91,7 +91,7 @@ seven : 7 ≡ length (messageOf [])
 unfolding messageOf fields prefix bigEndian
 seven = refl
 
-started : (out : List ℕ) → 7 ≤ length out → InFront out [] (beginWrites out)
+started : (out : List ℕ) → 7 ≤ length out → InFront out [] (beginFileWrites out)
 started out h =
     let e = seven in
     record {
@@ -102,10 +102,10 @@ started out h =
 
 -- After `begin` and appends none of which is refused, the front of the buffer is the file of the items, nothing behind it moved, and the
 -- items fit one file: by `accepted` and `holds` it is a message file that holds them.
-pub packs : (out : List ℕ) (items : List (List ℕ)) → beginRefusal (length out) ≡ none → NoneRefused (beginWrites out) 7 items
-    → InFront out items (appendAll (beginWrites out) 7 items)
-unfolding beginRefusal
-packs out items b R = run out items [] (beginWrites out) 7 seven (started out (room-tells 7 (length out) none (sym b) refl)) R
+pub packs : (out : List ℕ) (items : List (List ℕ)) → beginFileRefusal (length out) ≡ none → NoneRefused (beginFileWrites out) 7 items
+    → InFront out items (appendAll (beginFileWrites out) 7 items)
+unfolding beginFileRefusal
+packs out items b R = run out items [] (beginFileWrites out) 7 seven (started out (room-tells 7 (length out) none (sym b) refl)) R
 
 -- ---- what is not refused
 
@@ -117,14 +117,14 @@ passes-item out items file H n e x short room whole =
     let a = accepted items (H .packable) in
     let f = front out items file H n e in
     let l = file-length out items file H n e in
-    let c : count (take n file) ≡ length items = ap count f ∙ a .2 in
-    let m : count (take n file) < 65535 = omega (arith, few items (H .packable .whole)) in
+    let c : itemCount (take n file) ≡ length items = ap itemCount f ∙ a .2 in
+    let m : itemCount (take n file) < 65535 = omega (arith, few items (H .packable .whole)) in
     let r : n + 2 + length x ≤ length file = omega arith in
     let e₁ = unless-true _ 9 0 (le-leb (length x) 1024 short) in
     let e₂ = unless-true _ 7 0 (le-leb (n + 2 + length x) (length file) r) in
     let e₃ = ap refuse3 f ∙ a .0 in
     let e₄ = unless-true _ 3 0 (le-leb (n + 2 + length x) 65536 whole) in
-    let e₅ = unless-true _ 3 0 (lt-ltb (count (take n file)) 65535 m) in
+    let e₅ = unless-true _ 3 0 (lt-ltb (itemCount (take n file)) 65535 m) in
     λ i. first (e₁ i ∷ e₂ i ∷ e₃ i ∷ e₄ i ∷ e₅ i ∷ [])
 
 all-pass : (out : List ℕ) (rest done : List (List ℕ)) (file : List ℕ) (n : ℕ) → n ≡ length (messageOf done) → InFront out done file
@@ -148,7 +148,7 @@ all-pass out (x ∷ rest) done file n e H P room =
 
 -- Where the items fit one file and the buffer has room for it, neither `begin` nor any of the appends is refused.
 pub runs : (out : List ℕ) (items : List (List ℕ)) → Packable items → length (messageOf items) ≤ length out
-    → (beginRefusal (length out) ≡ none) × NoneRefused (beginWrites out) 7 items
+    → (beginFileRefusal (length out) ≡ none) × NoneRefused (beginFileWrites out) 7 items
 runs out items P room =
     let h : 7 ≤ length out = omega (arith, message-length items) in
-    (begins out h .0, all-pass out items [] (beginWrites out) 7 seven (started out h) P room)
+    (begins out h .0, all-pass out items [] (beginFileWrites out) 7 seven (started out h) P room)

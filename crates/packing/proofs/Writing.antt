@@ -7,7 +7,7 @@ use lib.ListN.{length, take, drop, length-append, length-drop, take-append-drop}
 use lib.Seq.{take-at, drop-at, take-append-le, drop-append-le, drop-drop, length-take-le}
 use Rattle.cipher.specs.Number.{number, bigEndian}
 use Rattle.cipher.proofs.Numbers.{bigEndian-length}
-use Rattle.files.specs.Message.{number16, count}
+use Rattle.files.specs.Message.{number16, itemCount}
 use Rattle.packing.specs.Packing.{field, appended}
 
 -- ---- a part replaced
@@ -65,8 +65,8 @@ module _ (f : List ℕ) (n : ℕ) (item : List ℕ) (low : 7 ≤ n) (room : n + 
   s-length = length-take-le n f (omega arith)
 
   -- the count that the code reads
-  pub count-read : number16 f 5 ≡ count (take n f)
-  unfolding count s
+  pub count-read : number16 f 5 ≡ itemCount (take n f)
+  unfolding itemCount s
   count-read =
       ap (λ (l : List ℕ). number16 l 5) (sym (take-append-drop n f)) ∙ number16-front (take n f) (drop n f) 5 (omega (arith, s-length))
 
@@ -79,7 +79,7 @@ module _ (f : List ℕ) (n : ℕ) (item : List ℕ) (low : 7 ≤ n) (room : n + 
       (parted n 2 f ∙ ap (λ (t : List ℕ). take 2 (drop n f) ++ t) (parted (n + 2) (length item) f))
       ∙ simp append-assoc
 
-  pub item-put : (f₁ f₂ f₃ raised long : List ℕ) → raised ≡ bigEndian 2 (count (take n f) + 1) → long ≡ bigEndian 2 (length item)
+  pub item-put : (f₁ f₂ f₃ raised long : List ℕ) → raised ≡ bigEndian 2 (itemCount (take n f) + 1) → long ≡ bigEndian 2 (length item)
       → f₁ ≡ take 5 f ++ (raised ++ drop (5 + length raised) f)
       → f₂ ≡ take n f₁ ++ (long ++ drop (n + length long) f₁)
       → f₃ ≡ take (n + 2) f₂ ++ (item ++ drop (n + 2 + length item) f₂)
@@ -87,7 +87,7 @@ module _ (f : List ℕ) (n : ℕ) (item : List ℕ) (low : 7 ≤ n) (room : n + 
   unfolding appended field s file
   item-put f₁ f₂ f₃ raised long er el e₁ e₂ e₃ =
       let z = s-length in
-      let hr : length raised ≡ 2 = ap length er ∙ bigEndian-length 2 (count s + 1) in
+      let hr : length raised ≡ 2 = ap length er ∙ bigEndian-length 2 (itemCount s + 1) in
       let hl : length long ≡ 2 = ap length el ∙ bigEndian-length 2 (length item) in
       let p = take 5 s in
       let k = take 2 (drop 5 s) in

@@ -8,8 +8,8 @@ use Rattle.cipher.specs.Block.{if_then_else_}
 use Rattle.cipher.specs.Number.{bigEndian}
 use Rattle.files.specs.declared.Refusal.{Refusal}
 use Rattle.files.specs.Refusals.{unless, passes, first}
-use Rattle.files.specs.Message.{prefix, count, refuse3}
-use Rattle.files.specs.Handed.{refuse7, refuse9}
+use Rattle.files.specs.Message.{prefix, itemCount, refuse3}
+use Rattle.files.specs.Arguments.{refuse7, refuse9}
 
 -- ---- the file of a list of items
 
@@ -28,16 +28,16 @@ messageOf items = prefix ++ (bigEndian 2 (length items) ++ fields items)
 
 -- the file s with one item more behind its last
 unfoldable pub appended : List ℕ → List ℕ → List ℕ
-appended s item = (take 5 s ++ bigEndian 2 (count s + 1)) ++ (drop 7 s ++ field item)
+appended s item = (take 5 s ++ bigEndian 2 (itemCount s + 1)) ++ (drop 7 s ++ field item)
 
 -- ---- begin (lent buffer): 7
 
-unfoldable pub beginRefusal : ℕ → Refusal
-beginRefusal room = refuse7 7 room
+unfoldable pub beginFileRefusal : ℕ → Refusal
+beginFileRefusal room = refuse7 7 room
 
 -- the file without items in front; the bytes behind stay, and all where it is refused
-unfoldable pub beginWrites : List ℕ → List ℕ
-beginWrites out = if passes (beginRefusal (length out)) then messageOf [] ++ drop 7 out else out
+unfoldable pub beginFileWrites : List ℕ → List ℕ
+beginFileWrites out = if passes (beginFileRefusal (length out)) then messageOf [] ++ drop 7 out else out
 
 -- ---- append (lent buffer whose first n bytes are the file so far, n, item): 9, 7, 3
 
@@ -49,7 +49,7 @@ appendRefusal file n item =
     refuse7 (n + 2 + length item) (length file) ∷
     refuse3 (take n file) ∷
     unless (leb (n + 2 + length item) 65536) 3 0 ∷
-    unless (ltb (count (take n file)) 65535) 3 0 ∷ [])
+    unless (ltb (itemCount (take n file)) 65535) 3 0 ∷ [])
 
 -- the file with the item in front; the bytes behind stay, and all where it is refused
 unfoldable pub appendWrites : List ℕ → ℕ → List ℕ → List ℕ

@@ -1,7 +1,7 @@
 // Packing: a message file (document 01: shelf) built in a lent buffer, one item (card) after another.
 use cipher::block;
 use files::Refusal;
-use files::handed;
+use files::arguments;
 use files::message;
 ghost use mathlib.Core.Path.{_≡_};
 ghost use mathlib.Core.List.{[], _∷_, _++_};
@@ -9,9 +9,9 @@ ghost use Prim.Native.Nat.{_+_, _≤_, _<_};
 ghost use lib.Dec.{leb, ltb};
 ghost use lib.ListN.{length, take, drop};
 ghost use Rattle.files.specs.Refusals.{unless, first};
-ghost use Rattle.files.specs.Message.{count, refuse3};
-ghost use Rattle.files.specs.Handed.{refuse7};
-ghost use Rattle.packing.specs.Packing.{appended, beginRefusal, beginWrites, appendRefusal, appendWrites};
+ghost use Rattle.files.specs.Message.{itemCount, refuse3};
+ghost use Rattle.files.specs.Arguments.{refuse7};
+ghost use Rattle.packing.specs.Packing.{appended, beginFileRefusal, beginFileWrites, appendRefusal, appendWrites};
 
 // Writes bytes at a place of out; all else stays.
 fn put(out: &mut [u8], at: usize, text: &[u8])
@@ -23,10 +23,10 @@ fn put(out: &mut [u8], at: usize, text: &[u8])
 
 // Writes the message file without items, 7 bytes, to the front of out; the bytes behind stay. Refuses 7; out is then as it was.
 pub fn begin(out: &mut [u8]) -> Refusal
-    ensures refused { λ r. ⌜ r ≡ beginRefusal (length (now (out .entry))) ⌝ }
-    ensures written { λ _. ⌜ now (out .exit) ≡ beginWrites (now (out .entry)) ⌝ }
+    ensures refused { λ r. ⌜ r ≡ beginFileRefusal (length (now (out .entry))) ⌝ }
+    ensures written { λ _. ⌜ now (out .exit) ≡ beginFileWrites (now (out .entry)) ⌝ }
 {
-    let refused = handed::check_room(7, out.len());
+    let refused = arguments::check_room(7, out.len());
     if refused.number != 0 {
         return refused;
     }
@@ -44,12 +44,12 @@ fn check_room(room: usize, n: usize, item: &[u8]) -> Refusal
             place: 0,
         };
     }
-    handed::check_room(2 + item.len(), room - n)
+    arguments::check_room(2 + item.len(), room - n)
 }
 
 // Refusal 3, or none, of a file that has so many bytes with one item more.
 fn check_file(s: &[u8], size: usize) -> Refusal
-    ensures { λ r. ⌜ r ≡ first (refuse3 (now (s .entry)) ∷ unless (leb size 65536) 3 0 ∷ unless (ltb (count (now (s .entry))) 65535) 3 0 ∷ []) ⌝ }
+    ensures { λ r. ⌜ r ≡ first (refuse3 (now (s .entry)) ∷ unless (leb size 65536) 3 0 ∷ unless (ltb (itemCount (now (s .entry))) 65535) 3 0 ∷ []) ⌝ }
 {
     let head = message::check_header(s);
     if head.number != 0 {
@@ -61,14 +61,14 @@ fn check_file(s: &[u8], size: usize) -> Refusal
             place: 0,
         };
     }
-    handed::unless(message::number16(s, 5) < 65535, 3, 0)
+    arguments::unless(message::number16(s, 5) < 65535, 3, 0)
 }
 
 // Append's refusal: 9, 7 or 3, or none.
 fn append_refusal(file: &[u8], n: usize, item: &[u8]) -> Refusal
     ensures { λ r. ⌜ r ≡ appendRefusal (now (file .entry)) n (now (item .entry)) ⌝ }
 {
-    let long = handed::check_item(item, 0);
+    let long = arguments::check_item(item, 0);
     if long.number != 0 {
         return long;
     }
@@ -81,7 +81,7 @@ fn append_refusal(file: &[u8], n: usize, item: &[u8]) -> Refusal
 
 // Writes the count raised by one, and the item with its length behind the first n bytes, for an append that passes.
 fn put_item(file: &mut [u8], n: usize, item: &[u8])
-    requires { ⌜ (7 ≤ n) × (n + 2 + length (now item) ≤ length (now file)) × (length (now item) ≤ 1024) × (count (take n (now file)) < 65535) ⌝ }
+    requires { ⌜ (7 ≤ n) × (n + 2 + length (now item) ≤ length (now file)) × (length (now item) ≤ 1024) × (itemCount (take n (now file)) < 65535) ⌝ }
     ensures { λ _. ⌜ now (file .exit) ≡ appended (take n (now (file .entry))) (now (item .entry)) ++ drop (n + 2 + length (now (item .entry))) (now (file .entry)) ⌝ }
 {
     let count = block::to_be16((message::number16(file, 5) + 1) as u16);

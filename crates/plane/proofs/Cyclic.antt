@@ -9,7 +9,7 @@ use native.Mathlib.Omega.{arith}
 use lib.Dec.{eqb, ltb}
 use lib.ListN.{length, getD}
 use borrow.Author.Tests.{ltb-true, ltb-false, eqb-true, lt-ltb, le-leb}
-use Rattle.incidence.specs.Count.{count, inside}
+use Rattle.incidence.specs.Count.{countUpTo, inside}
 use Rattle.incidence.specs.Family.{Earlier, parity}
 use Rattle.incidence.proofs.Booleans.{and-left, and-right, beq-eq}
 use Rattle.incidence.proofs.Counting.{inside-low, inside-high, inside-yes, count-ext, every, every-at}
@@ -66,45 +66,45 @@ module _ (m t d : ℕ) (D P : List ℕ) (R : Rules m t d D P) where
           let z : x ≡ m = omega (arith, ltb-false x m e) in
           rw (z, mod-self m) (not-member 0 D (R .rises) 0 (omega arith) ∙ sym (not-member-top m D (R .below)))
 
-  pub count-hits : (n : ℕ) → n ≤ m → count hit n ≡ rank D n
+  pub count-hits : (n : ℕ) → n ≤ m → countUpTo hit n ≡ rank D n
   count-hits n u = count-ext hit (λ x. member x D) n (λ x a b. hit-member x (omega arith)) ∙ count-rank D (R .rises) n
 
-  pub count-all : count hit m ≡ suc d
+  pub count-all : countUpTo hit m ≡ suc d
   count-all = count-hits m (omega arith) ∙ rank-all m D (R .below) ∙ R .size
 
   -- past a whole turn
-  pub count-turn : (n : ℕ) → count hit (m + n) ≡ suc d + count hit n
+  pub count-turn : (n : ℕ) → countUpTo hit (m + n) ≡ suc d + countUpTo hit n
   count-turn n = count-add hit m n ∙ ap₂ _+_ count-all (count-ext (λ k. hit (m + k)) hit n (λ k a b. hit-again k))
 
   -- m numbers in a row are a whole turn, wherever they start
-  whole : (h : ℕ → Bool) → ((x : ℕ) → h (m + x) ≡ h x) → (a : ℕ) → count (λ k. h (a + k)) m ≡ count h m
+  whole : (h : ℕ → Bool) → ((x : ℕ) → h (m + x) ≡ h x) → (a : ℕ) → countUpTo (λ k. h (a + k)) m ≡ countUpTo h m
   whole h again a =
       let e : a + m ≡ m + a = omega arith in
       omega (
         arith,
         count-add h a m,
-        ap (count h) e,
+        ap (countUpTo h) e,
         count-add h m a,
         count-ext (λ k. h (m + k)) h a (λ k l u. again k),
       )
 
   -- a card's rows fall along the remainders, a row's cards rise along them
-  down : (h : ℕ → Bool) → ((x : ℕ) → h (m + x) ≡ h x) → (j : ℕ) → 1 ≤ j → count (λ i. h (j + m - i)) m ≡ count h m
+  down : (h : ℕ → Bool) → ((x : ℕ) → h (m + x) ≡ h x) → (j : ℕ) → 1 ≤ j → countUpTo (λ i. h (j + m - i)) m ≡ countUpTo h m
   down h again j l =
       let e : j + m ≡ j - 1 + suc m = omega arith in
       rw e (count-down h (j - 1) m ∙ whole h again (j - 1))
 
-  up : (h : ℕ → Bool) → ((x : ℕ) → h (m + x) ≡ h x) → (i : ℕ) → i ≤ m → count (λ j. h (j + m - i)) m ≡ count h m
+  up : (h : ℕ → Bool) → ((x : ℕ) → h (m + x) ≡ h x) → (i : ℕ) → i ≤ m → countUpTo (λ j. h (j + m - i)) m ≡ countUpTo h m
   up h again i u =
       count-ext (λ j. h (j + m - i)) (λ j. h (m - i + j)) m (λ j a b. let e : j + m - i ≡ m - i + j = omega arith in ap h e)
       ∙ whole h again (m - i)
 
   -- property A: a card is on d + 1 rows, and a row holds d + 1 cards
-  pub column-weight : (j : ℕ) → 1 ≤ j → j ≤ m → count (λ i. on m D i j) m ≡ suc d
+  pub column-weight : (j : ℕ) → 1 ≤ j → j ≤ m → countUpTo (λ i. on m D i j) m ≡ suc d
   column-weight j l u =
       count-ext (λ i. on m D i j) (λ i. hit (j + m - i)) m (λ i a b. on-inside m D i j a b l u) ∙ down hit hit-again j l ∙ count-all
 
-  pub row-weight : (i : ℕ) → 1 ≤ i → i ≤ m → count (λ j. on m D i j) m ≡ suc d
+  pub row-weight : (i : ℕ) → 1 ≤ i → i ≤ m → countUpTo (λ j. on m D i j) m ≡ suc d
   row-weight i l u =
       count-ext (λ j. on m D i j) (λ j. hit (j + m - i)) m (λ j a b. on-inside m D i j l u a b) ∙ up hit hit-again i u ∙ count-all
 
@@ -121,7 +121,7 @@ module _ (m t d : ℕ) (D P : List ℕ) (R : Rules m t d D P) where
   twice-again δ x = let e : m + x + δ ≡ m + (x + δ) = omega arith in rw e (ap₂ _&&_ (hit-again x) (hit-again (x + δ)))
 
   -- once in a turn
-  twice-once : (δ : ℕ) → 1 ≤ δ → δ < m → count (twice δ) m ≡ 1
+  twice-once : (δ : ℕ) → 1 ≤ δ → δ < m → countUpTo (twice δ) m ≡ 1
   unfolding pairs
   twice-once δ l u =
       count-ext (twice δ) (λ x. member x D && hit (x + δ)) m (λ x a b. ap (λ (s : Bool). s && hit (x + δ)) (hit-member x b))
@@ -131,7 +131,7 @@ module _ (m t d : ℕ) (D P : List ℕ) (R : Rules m t d D P) where
 
   -- property B: two cards share one row, and two rows one card. First where the other stands δ further round.
   columns-by : (δ j k : ℕ) → 1 ≤ δ → δ < m → 1 ≤ j → j ≤ m → 1 ≤ k → k ≤ m
-      → ((i : ℕ) → 1 ≤ i → i ≤ m → (k + m - i) % m ≡ (j + m - i + δ) % m) → count (λ i. on m D i j && on m D i k) m ≡ 1
+      → ((i : ℕ) → 1 ≤ i → i ≤ m → (k + m - i) % m ≡ (j + m - i + δ) % m) → countUpTo (λ i. on m D i j && on m D i k) m ≡ 1
   columns-by δ j k l u lj uj lk uk h =
       count-ext (λ i. on m D i j && on m D i k) (λ i. twice δ (j + m - i)) m
       (λ i a b. ap₂ _&&_ (on-inside m D i j a b lj uj) (on-inside m D i k a b lk uk ∙ ap (λ (y : ℕ). member y D) (h i a b)))
@@ -139,17 +139,17 @@ module _ (m t d : ℕ) (D P : List ℕ) (R : Rules m t d D P) where
       ∙ twice-once δ l u
 
   rows-by : (δ i k : ℕ) → 1 ≤ δ → δ < m → 1 ≤ i → i ≤ m → 1 ≤ k → k ≤ m
-      → ((j : ℕ) → 1 ≤ j → j ≤ m → (j + m - k) % m ≡ (j + m - i + δ) % m) → count (λ j. on m D i j && on m D k j) m ≡ 1
+      → ((j : ℕ) → 1 ≤ j → j ≤ m → (j + m - k) % m ≡ (j + m - i + δ) % m) → countUpTo (λ j. on m D i j && on m D k j) m ≡ 1
   rows-by δ i k l u li ui lk uk h =
       count-ext (λ j. on m D i j && on m D k j) (λ j. twice δ (j + m - i)) m
       (λ j a b. ap₂ _&&_ (on-inside m D i j li ui a b) (on-inside m D k j lk uk a b ∙ ap (λ (y : ℕ). member y D) (h j a b)))
       ∙ up (twice δ) (twice-again δ) i ui
       ∙ twice-once δ l u
 
-  pub columns-share : (j k : ℕ) → 1 ≤ j → j ≤ m → 1 ≤ k → k ≤ m → (k ≡ j → ⊥) → count (λ i. on m D i j && on m D i k) m ≡ 1
+  pub columns-share : (j k : ℕ) → 1 ≤ j → j ≤ m → 1 ≤ k → k ≤ m → (k ≡ j → ⊥) → countUpTo (λ i. on m D i j && on m D i k) m ≡ 1
   columns-share j k lj uj lk uk ne = go (ltb j k) refl
     where
-      go : (b : Bool) → ltb j k ≡ b → count (λ i. on m D i j && on m D i k) m ≡ 1
+      go : (b : Bool) → ltb j k ≡ b → countUpTo (λ i. on m D i j && on m D i k) m ≡ 1
       go true e =
           let l : j < k = ltb-true j k e in
           columns-by (k - j) j k (omega arith) (omega arith) lj uj lk uk
@@ -159,10 +159,10 @@ module _ (m t d : ℕ) (D P : List ℕ) (R : Rules m t d D P) where
           columns-by (m + k - j) j k (omega arith) (omega arith) lj uj lk uk
           (λ i a b. let z : j + m - i + (m + k - j) ≡ k + m - i + m = omega arith in rw (z, add-mod-right (k + m - i) m))
 
-  pub rows-share : (i k : ℕ) → 1 ≤ i → i ≤ m → 1 ≤ k → k ≤ m → (k ≡ i → ⊥) → count (λ j. on m D i j && on m D k j) m ≡ 1
+  pub rows-share : (i k : ℕ) → 1 ≤ i → i ≤ m → 1 ≤ k → k ≤ m → (k ≡ i → ⊥) → countUpTo (λ j. on m D i j && on m D k j) m ≡ 1
   rows-share i k li ui lk uk ne = go (ltb k i) refl
     where
-      go : (b : Bool) → ltb k i ≡ b → count (λ j. on m D i j && on m D k j) m ≡ 1
+      go : (b : Bool) → ltb k i ≡ b → countUpTo (λ j. on m D i j && on m D k j) m ≡ 1
       go true e =
           let l : k < i = ltb-true k i e in
           rows-by (i - k) i k (omega arith) (omega arith) li ui lk uk

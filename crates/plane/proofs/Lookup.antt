@@ -13,7 +13,7 @@ use Rattle.cipher.proofs.Xor.{same-true}
 use Rattle.incidence.proofs.Booleans.{and-left, and-right}
 use Rattle.incidence.proofs.Counting.{every, every-at}
 use Rattle.plane.proofs.Ranks.{above}
-use Rattle.plane.specs.Table.{itemCounts, itemsOf, tagCounts, tagsOf, limits, limitOf, differenceLists, differences, patternLists, pattern}
+use Rattle.plane.specs.Table.{itemCounts, planeItems, tagCounts, planeTags, limits, planeLimit, differenceLists, differences, patternLists, planePattern}
 
 -- below five or not
 pub five : {A : Type 0} (s : ℕ) → (s < 5 → A) → (5 ≤ s → A) → A
@@ -77,24 +77,24 @@ pub no-differences : (s : ℕ) → 5 ≤ s → differences s ≡ []
 unfolding differences differenceLists
 no-differences s h = List·getD-eq-default differenceLists [] h
 
-pub no-pattern : (s : ℕ) → 5 ≤ s → pattern s ≡ []
-unfolding pattern patternLists
+pub no-pattern : (s : ℕ) → 5 ≤ s → planePattern s ≡ []
+unfolding planePattern patternLists
 no-pattern s h = List·getD-eq-default patternLists [] h
 
 pub difference-count : (s : ℕ) → getD (0 ∷ 3 ∷ 5 ∷ 9 ∷ 17 ∷ []) s 0 ≡ length (differences s)
 unfolding differences differenceLists
 difference-count = column-is (0 ∷ 3 ∷ 5 ∷ 9 ∷ 17 ∷ []) (λ s. length (differences s)) refl (λ s h. ap length (no-differences s h)) refl
 
-pub pattern-count : (s : ℕ) → getD (0 ∷ 3 ∷ 5 ∷ 15 ∷ 35 ∷ []) s 0 ≡ length (pattern s)
-unfolding pattern patternLists
-pattern-count = column-is (0 ∷ 3 ∷ 5 ∷ 15 ∷ 35 ∷ []) (λ s. length (pattern s)) refl (λ s h. ap length (no-pattern s h)) refl
+pub pattern-count : (s : ℕ) → getD (0 ∷ 3 ∷ 5 ∷ 15 ∷ 35 ∷ []) s 0 ≡ length (planePattern s)
+unfolding planePattern patternLists
+pattern-count = column-is (0 ∷ 3 ∷ 5 ∷ 15 ∷ 35 ∷ []) (λ s. length (planePattern s)) refl (λ s h. ap length (no-pattern s h)) refl
 
 differences-test : every (partTest differenceTable differenceStarts 34 differences) 5 ≡ true
 unfolding partTest same differences differenceLists differenceTable
 differences-test = refl
 
-patterns-test : every (partTest patternTable patternStarts 58 pattern) 5 ≡ true
-unfolding partTest same pattern patternLists patternTable
+patterns-test : every (partTest patternTable patternStarts 58 planePattern) 5 ≡ true
+unfolding partTest same planePattern patternLists patternTable
 patterns-test = refl
 
 pub difference-bound : (s k : ℕ) → k < length (differences s) → getD differenceStarts s 0 + k < 34
@@ -103,11 +103,11 @@ difference-bound = part-bound differenceTable differenceStarts 34 differences no
 pub difference-at : (s k : ℕ) → k < length (differences s) → getD differenceTable (getD differenceStarts s 0 + k) 0 ≡ getD (differences s) k 0
 difference-at = part-at differenceTable differenceStarts 34 differences no-differences differences-test
 
-pub step-bound : (s k : ℕ) → k < length (pattern s) → getD patternStarts s 0 + k < 58
-step-bound = part-bound patternTable patternStarts 58 pattern no-pattern patterns-test
+pub step-bound : (s k : ℕ) → k < length (planePattern s) → getD patternStarts s 0 + k < 58
+step-bound = part-bound patternTable patternStarts 58 planePattern no-pattern patterns-test
 
-pub step-at : (s k : ℕ) → k < length (pattern s) → getD patternTable (getD patternStarts s 0 + k) 0 ≡ getD (pattern s) k 0
-step-at = part-at patternTable patternStarts 58 pattern no-pattern patterns-test
+pub step-at : (s k : ℕ) → k < length (planePattern s) → getD patternTable (getD patternStarts s 0 + k) 0 ≡ getD (planePattern s) k 0
+step-at = part-at patternTable patternStarts 58 planePattern no-pattern patterns-test
 
 -- ---- how large the numbers are
 
@@ -121,42 +121,42 @@ getD-most b [] h k = omega arith
 getD-most b (x ∷ l) h zero = leb-true x b (and-left (leb x b) (most b l) h)
 getD-most b (x ∷ l) h (suc k) = getD-most b l (and-right (leb x b) (most b l) h) k
 
-pub items-most : (s : ℕ) → itemsOf s ≤ 273
-unfolding itemsOf itemCounts most
+pub items-most : (s : ℕ) → planeItems s ≤ 273
+unfolding planeItems itemCounts most
 items-most = getD-most 273 itemCounts refl
 
 pub differences-few : (s : ℕ) → length (differences s) ≤ 17
 unfolding most
 differences-few s = omega (arith, difference-count s, getD-most 17 (0 ∷ 3 ∷ 5 ∷ 9 ∷ 17 ∷ []) refl s)
 
-pub tags-most : (s : ℕ) → tagsOf s ≤ 82
-unfolding tagsOf tagCounts most
+pub tags-most : (s : ℕ) → planeTags s ≤ 82
+unfolding planeTags tagCounts most
 tags-most = getD-most 82 tagCounts refl
 
-pub limit-most : (s : ℕ) → limitOf s ≤ 273
-unfolding limitOf limits most
+pub limit-most : (s : ℕ) → planeLimit s ≤ 273
+unfolding planeLimit limits most
 limit-most = getD-most 273 limits refl
 
 -- past the columns there is nothing
-pub no-items : (s : ℕ) → 5 ≤ s → itemsOf s ≡ 0
-unfolding itemsOf itemCounts
+pub no-items : (s : ℕ) → 5 ≤ s → planeItems s ≡ 0
+unfolding planeItems itemCounts
 no-items s h = List·getD-eq-default itemCounts 0 h
 
-pub no-tags : (s : ℕ) → 5 ≤ s → tagsOf s ≡ 0
-unfolding tagsOf tagCounts
+pub no-tags : (s : ℕ) → 5 ≤ s → planeTags s ≡ 0
+unfolding planeTags tagCounts
 no-tags s h = List·getD-eq-default tagCounts 0 h
 
-pub no-limit : (s : ℕ) → 5 ≤ s → limitOf s ≡ 0
-unfolding limitOf limits
+pub no-limit : (s : ℕ) → 5 ≤ s → planeLimit s ≡ 0
+unfolding planeLimit limits
 no-limit s h = List·getD-eq-default limits 0 h
 
 -- there are items only where s is 1 to 4
-pub some-low : (s : ℕ) → 1 ≤ itemsOf s → 1 ≤ s
-unfolding itemsOf itemCounts
+pub some-low : (s : ℕ) → 1 ≤ planeItems s → 1 ≤ s
+unfolding planeItems itemCounts
 some-low zero h = h
 some-low (suc s) h = omega arith
 
-pub some-high : (s : ℕ) → 1 ≤ itemsOf s → s ≤ 4
+pub some-high : (s : ℕ) → 1 ≤ planeItems s → s ≤ 4
 some-high s h = five s (λ u. omega arith) (λ u. absurd (omega (arith, no-items s u)))
 
 -- the lists rise, whatever s

@@ -6,10 +6,10 @@ use native.Mathlib.Omega.{arith}
 use lib.Dec.{leb}
 use borrow.Author.Tests.{leb-true, leb-false, le-leb}
 use Rattle.cipher.specs.Block.{if_then_else_}
-use Rattle.incidence.specs.Count.{count}
+use Rattle.incidence.specs.Count.{countUpTo}
 use Rattle.incidence.specs.Family.{Disjunct, Lawful}
 use Rattle.incidence.proofs.Pigeonhole.{pigeonhole}
-use Rattle.plane.specs.Table.{itemsOf, tagsOf, limitOf, differences, pattern}
+use Rattle.plane.specs.Table.{planeItems, planeTags, planeLimit, differences, planePattern}
 use Rattle.plane.specs.Plane.{plane, tagged, pairs, on}
 use Rattle.plane.proofs.Cyclic.{Rules, once-at, column-weight, row-weight, columns-share, rows-share, pattern-yields, made-earlier}
 use Rattle.plane.proofs.Rules.{rules}
@@ -47,51 +47,51 @@ tagged-none t i l = go (leb i t) refl
 -- ---- the planes, s from 1 to 4
 
 module _ (s : ℕ) (low : 1 ≤ s) (high : s ≤ 4) where
-  R : Rules (itemsOf s) (tagsOf s) (limitOf s) (differences s) (pattern s)
+  R : Rules (planeItems s) (planeTags s) (planeLimit s) (differences s) (planePattern s)
   R = rules s low high
 
   -- "Every nonzero remainder modulo m is a difference of two members of D once"
-  pub difference-once : (δ : ℕ) → 1 ≤ δ → δ < itemsOf s → pairs (itemsOf s) (differences s) δ ≡ 1
-  difference-once = once-at (itemsOf s) (tagsOf s) (limitOf s) (differences s) (pattern s) R
+  pub difference-once : (δ : ℕ) → 1 ≤ δ → δ < planeItems s → pairs (planeItems s) (differences s) δ ≡ 1
+  difference-once = once-at (planeItems s) (planeTags s) (planeLimit s) (differences s) (planePattern s) R
 
   -- "so a card is on d+1 rows"; a row holds d + 1 places too
-  pub rows-of-item : (j : ℕ) → 1 ≤ j → j ≤ itemsOf s → count (λ i. plane s .on i j) (itemsOf s) ≡ suc (limitOf s)
+  pub rows-of-item : (j : ℕ) → 1 ≤ j → j ≤ planeItems s → countUpTo (λ i. plane s .on i j) (planeItems s) ≡ suc (planeLimit s)
   unfolding plane
-  rows-of-item = column-weight (itemsOf s) (tagsOf s) (limitOf s) (differences s) (pattern s) R
+  rows-of-item = column-weight (planeItems s) (planeTags s) (planeLimit s) (differences s) (planePattern s) R
 
-  pub items-of-row : (i : ℕ) → 1 ≤ i → i ≤ itemsOf s → count (λ j. plane s .on i j) (itemsOf s) ≡ suc (limitOf s)
+  pub items-of-row : (i : ℕ) → 1 ≤ i → i ≤ planeItems s → countUpTo (λ j. plane s .on i j) (planeItems s) ≡ suc (planeLimit s)
   unfolding plane
-  items-of-row = row-weight (itemsOf s) (tagsOf s) (limitOf s) (differences s) (pattern s) R
+  items-of-row = row-weight (planeItems s) (planeTags s) (planeLimit s) (differences s) (planePattern s) R
 
   -- "and two cards share at most one row": exactly one; and two rows one card
-  pub share-one-row : (j k : ℕ) → 1 ≤ j → j ≤ itemsOf s → 1 ≤ k → k ≤ itemsOf s → (k ≡ j → ⊥)
-      → count (λ i. plane s .on i j && plane s .on i k) (itemsOf s) ≡ 1
+  pub share-one-row : (j k : ℕ) → 1 ≤ j → j ≤ planeItems s → 1 ≤ k → k ≤ planeItems s → (k ≡ j → ⊥)
+      → countUpTo (λ i. plane s .on i j && plane s .on i k) (planeItems s) ≡ 1
   unfolding plane
-  share-one-row = columns-share (itemsOf s) (tagsOf s) (limitOf s) (differences s) (pattern s) R
+  share-one-row = columns-share (planeItems s) (planeTags s) (planeLimit s) (differences s) (planePattern s) R
 
-  pub share-one-item : (i k : ℕ) → 1 ≤ i → i ≤ itemsOf s → 1 ≤ k → k ≤ itemsOf s → (k ≡ i → ⊥)
-      → count (λ j. plane s .on i j && plane s .on k j) (itemsOf s) ≡ 1
+  pub share-one-item : (i k : ℕ) → 1 ≤ i → i ≤ planeItems s → 1 ≤ k → k ≤ planeItems s → (k ≡ i → ⊥)
+      → countUpTo (λ j. plane s .on i j && plane s .on k j) (planeItems s) ≡ 1
   unfolding plane
-  share-one-item = rows-share (itemsOf s) (tagsOf s) (limitOf s) (differences s) (pattern s) R
+  share-one-item = rows-share (planeItems s) (planeTags s) (planeLimit s) (differences s) (planePattern s) R
 
   -- "Hence d-disjunct"
-  pub disjunct : Disjunct (plane s) (limitOf s)
+  pub disjunct : Disjunct (plane s) (planeLimit s)
   unfolding plane
   disjunct =
-      pigeonhole (plane s) (limitOf s) (λ j l u. omega (arith, rows-of-item j l u))
+      pigeonhole (plane s) (planeLimit s) (λ j l u. omega (arith, rows-of-item j l u))
       (λ j k lj uj lk uk ne. omega (arith, share-one-row j k lj uj lk uk ne))
 
   pub lawful : Lawful (plane s)
   unfolding plane
   lawful = record {
     disjunct = disjunct;
-    row-low = λ k l u. rw (tagged-yes (tagsOf s) k u) l;
-    row-high = λ k l u. omega (arith, tagged-yes (tagsOf s) k u, R .fits);
-    tag-back = λ k l u. ap (tagged (tagsOf s)) (tagged-yes (tagsOf s) k u) ∙ tagged-yes (tagsOf s) k u;
-    tag-high = λ i l u. tagged-most (tagsOf s) i;
-    row-back = λ i l u h. ap (tagged (tagsOf s)) (tagged-some (tagsOf s) i h) ∙ tagged-some (tagsOf s) i h;
+    row-low = λ k l u. rw (tagged-yes (planeTags s) k u) l;
+    row-high = λ k l u. omega (arith, tagged-yes (planeTags s) k u, R .fits);
+    tag-back = λ k l u. ap (tagged (planeTags s)) (tagged-yes (planeTags s) k u) ∙ tagged-yes (planeTags s) k u;
+    tag-high = λ i l u. tagged-most (planeTags s) i;
+    row-back = λ i l u h. ap (tagged (planeTags s)) (tagged-some (planeTags s) i h) ∙ tagged-some (planeTags s) i h;
     earlier = λ i l u h.
-        made-earlier (itemsOf s) (tagsOf s) (limitOf s) (differences s) (pattern s) R i (tagged-none (tagsOf s) i l h) u;
+        made-earlier (planeItems s) (planeTags s) (planeLimit s) (differences s) (planePattern s) R i (tagged-none (planeTags s) i l h) u;
     adds-up = λ i j l u h lj uj.
-        pattern-yields (itemsOf s) (tagsOf s) (limitOf s) (differences s) (pattern s) R i j (tagged-none (tagsOf s) i l h) u lj uj;
+        pattern-yields (planeItems s) (planeTags s) (planeLimit s) (differences s) (planePattern s) R i j (tagged-none (planeTags s) i l h) u lj uj;
   }

@@ -8,7 +8,7 @@ use native.Mathlib.Omega.{arith}
 use lib.Dec.{eqb, ltb, leb}
 use lib.ListN.{length, getD}
 use borrow.Author.Tests.{ltb-true, ltb-false, leb-true, leb-false, le-leb, lt-leb, eqb-true, eqb-false, eq-eqb, ne-eqb}
-use Rattle.incidence.specs.Count.{bit, count}
+use Rattle.incidence.specs.Count.{indicator, countUpTo}
 use Rattle.incidence.proofs.Booleans.{and-left, and-right, or-first, or-second}
 use Rattle.incidence.proofs.Counting.{count-ext}
 use Rattle.plane.specs.Plane.{member, many}
@@ -61,17 +61,17 @@ under-at m (e ∷ D) h (suc k) l = under-at m D (and-right (ltb e m) (under m D)
 
 -- with the members up to n + 1, one more passes than with those up to n where n + 1 is a member that passes
 many-step : (q : ℕ → Bool) (b : ℕ) (D : List ℕ) (n : ℕ) → above b D ≡ true
-    → many (λ e. leb e (suc n) && q e) D ≡ many (λ e. leb e n && q e) D + bit (member (suc n) D && q (suc n))
+    → many (λ e. leb e (suc n) && q e) D ≡ many (λ e. leb e n && q e) D + indicator (member (suc n) D && q (suc n))
 many-step q b [] n h = refl
 many-step q b (e ∷ D) n h = go (many-step q e D n rise) (leb e n) refl (eqb (suc n) e) refl
   where
     rise : above e D ≡ true
     rise = above-tail b e D h
 
-    go : many (λ e. leb e (suc n) && q e) D ≡ many (λ e. leb e n && q e) D + bit (member (suc n) D && q (suc n))
+    go : many (λ e. leb e (suc n) && q e) D ≡ many (λ e. leb e n && q e) D + indicator (member (suc n) D && q (suc n))
         → (s : Bool) → leb e n ≡ s → (t : Bool) → eqb (suc n) e ≡ t
-        → bit (leb e (suc n) && q e) + many (λ e. leb e (suc n) && q e) D
-        ≡ bit (leb e n && q e) + many (λ e. leb e n && q e) D + bit ((eqb (suc n) e || member (suc n) D) && q (suc n))
+        → indicator (leb e (suc n) && q e) + many (λ e. leb e (suc n) && q e) D
+        ≡ indicator (leb e n && q e) + many (λ e. leb e n && q e) D + indicator ((eqb (suc n) e || member (suc n) D) && q (suc n))
     go ih true s t u =
         let l : e ≤ n = leb-true e n s in
         let w : eqb (suc n) e ≡ false = ne-eqb (suc n) e (λ z. omega arith) in
@@ -79,7 +79,7 @@ many-step q b (e ∷ D) n h = go (many-step q e D n rise) (leb e n) refl (eqb (s
     go ih false s true u =
         let z : suc n ≡ e = eqb-true (suc n) e u in
         let w : member (suc n) D ≡ false = not-member e D rise (suc n) (omega arith) in
-        let y : many (λ e. leb e (suc n) && q e) D ≡ many (λ e. leb e n && q e) D + bit (false && q (suc n)) = rw w at ih in
+        let y : many (λ e. leb e (suc n) && q e) D ≡ many (λ e. leb e n && q e) D + indicator (false && q (suc n)) = rw w at ih in
         rw (s, u, le-leb e (suc n) (omega arith), ← z) (omega arith)
     go ih false s false u =
         let l : n < e = leb-false e n s in
@@ -93,19 +93,19 @@ many-zero q b (e ∷ D) h =
 
 -- counting the numbers 1 to n that are members and pass is counting the members
 pub count-members : (q : ℕ → Bool) (D : List ℕ) → above 0 D ≡ true → (n : ℕ)
-    → count (λ x. member x D && q x) n ≡ many (λ e. leb e n && q e) D
+    → countUpTo (λ x. member x D && q x) n ≡ many (λ e. leb e n && q e) D
 count-members q D h zero = sym (many-zero q 0 D h)
 count-members q D h (suc n) = omega (arith, count-members q D h n, many-step q 0 D n h)
 
 pub many-ext : (p q : ℕ → Bool) (D : List ℕ) → ((e : ℕ) → p e ≡ q e) → many p D ≡ many q D
 many-ext p q [] h = refl
-many-ext p q (e ∷ D) h = ap₂ _+_ (ap bit (h e)) (many-ext p q D h)
+many-ext p q (e ∷ D) h = ap₂ _+_ (ap indicator (h e)) (many-ext p q D h)
 
 pub many-under : (q : ℕ → Bool) (m : ℕ) (D : List ℕ) → under m D ≡ true → many (λ e. leb e m && q e) D ≡ many q D
 many-under q m [] h = refl
 many-under q m (e ∷ D) h =
     let l : e < m = ltb-true e m (and-left (ltb e m) (under m D) h) in
-    rw (le-leb e m (omega arith)) (ap (λ (x : ℕ). bit (q e) + x) (many-under q m D (and-right (ltb e m) (under m D) h)))
+    rw (le-leb e m (omega arith)) (ap (λ (x : ℕ). indicator (q e) + x) (many-under q m D (and-right (ltb e m) (under m D) h)))
 
 pub many-all : (D : List ℕ) → many (λ e. true) D ≡ length D
 many-all [] = refl
@@ -120,7 +120,7 @@ and-yes : (a : Bool) → (a && true) ≡ a
 and-yes true = refl
 and-yes false = refl
 
-pub count-rank : (D : List ℕ) → above 0 D ≡ true → (n : ℕ) → count (λ x. member x D) n ≡ rank D n
+pub count-rank : (D : List ℕ) → above 0 D ≡ true → (n : ℕ) → countUpTo (λ x. member x D) n ≡ rank D n
 count-rank D h n =
     count-ext (λ x. member x D) (λ x. member x D && true) n (λ x l u. sym (and-yes (member x D)))
     ∙ count-members (λ x. true) D h n
@@ -154,10 +154,10 @@ rank-before b (e ∷ D) h (suc k) l =
     let w : e < getD D k 0 = above-at e D (above-tail b e D h) k u in
     rw (le-leb e (getD D k 0 - 1) (omega arith)) (omega (arith, rank-before e D (above-tail b e D h) k u))
 
-bit-leb : (e a b : ℕ) → a ≤ b → bit (leb e a) ≤ bit (leb e b)
+bit-leb : (e a b : ℕ) → a ≤ b → indicator (leb e a) ≤ indicator (leb e b)
 bit-leb e a b h = go (leb e a) refl
   where
-    go : (t : Bool) → leb e a ≡ t → bit (leb e a) ≤ bit (leb e b)
+    go : (t : Bool) → leb e a ≡ t → indicator (leb e a) ≤ indicator (leb e b)
     go true t = rw (t, le-leb e b (omega (arith, leb-true e a t))) (omega arith)
     go false t = rw t (omega arith)
 
@@ -186,28 +186,28 @@ pub rank-length : (D : List ℕ) (x : ℕ) → rank D x ≤ length D
 rank-length [] x = omega arith
 rank-length (e ∷ D) x = go (leb e x) (rank-length D x)
   where
-    go : (t : Bool) → rank D x ≤ length D → bit t + rank D x ≤ suc (length D)
+    go : (t : Bool) → rank D x ≤ length D → indicator t + rank D x ≤ suc (length D)
     go true h = omega arith
     go false h = omega arith
 
 -- ---- counts over a part of the numbers
 
 -- the numbers 1 to a + n are those to a, and n more
-pub count-add : (g : ℕ → Bool) (a n : ℕ) → count g (a + n) ≡ count g a + count (λ k. g (a + k)) n
+pub count-add : (g : ℕ → Bool) (a n : ℕ) → countUpTo g (a + n) ≡ countUpTo g a + countUpTo (λ k. g (a + k)) n
 count-add g a zero = let e : a + 0 ≡ a = omega arith in rw e (omega arith)
 count-add g a (suc n) = rw (add-suc a n) (omega (arith, count-add g a n))
 
-count-first : (p : ℕ → Bool) (n : ℕ) → count p (suc n) ≡ bit (p 1) + count (λ k. p (suc k)) n
+count-first : (p : ℕ → Bool) (n : ℕ) → countUpTo p (suc n) ≡ indicator (p 1) + countUpTo (λ k. p (suc k)) n
 count-first p zero = omega arith
 count-first p (suc n) = omega (arith, count-first p n)
 
 -- n numbers that fall to a + 1
-pub count-down : (g : ℕ → Bool) (a n : ℕ) → count (λ i. g (a + suc n - i)) n ≡ count (λ k. g (a + k)) n
+pub count-down : (g : ℕ → Bool) (a n : ℕ) → countUpTo (λ i. g (a + suc n - i)) n ≡ countUpTo (λ k. g (a + k)) n
 count-down g a zero = refl
 count-down g a (suc n) =
     let x : a + suc (suc n) ≡ suc a + suc n = omega arith in
     let y : suc a + suc n - suc n ≡ a + 1 = omega arith in
-    let z : count (λ k. g (a + suc k)) n ≡ count (λ k. g (suc a + k)) n =
+    let z : countUpTo (λ k. g (a + suc k)) n ≡ countUpTo (λ k. g (suc a + k)) n =
     count-ext (λ k. g (a + suc k)) (λ k. g (suc a + k)) n (λ k l u. let w : a + suc k ≡ suc a + k = omega arith in ap g w) in
     rw (x, y) (omega (arith, count-down g (suc a) n, count-first (λ k. g (a + k)) n))
 

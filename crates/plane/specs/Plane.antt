@@ -4,9 +4,9 @@ use mathlib.Core.List.{List, [], _∷_, map}
 use Prim.Native.Nat.{ℕ, _+_, _-_, _%_}
 use lib.Dec.{eqb, ltb, leb}
 use Rattle.cipher.specs.Block.{if_then_else_}
-use Rattle.incidence.specs.Count.{bit, inside}
+use Rattle.incidence.specs.Count.{indicator, inside}
 use Rattle.incidence.specs.Family.{Family}
-use Rattle.plane.specs.Table.{itemsOf, tagsOf, limitOf, differences, pattern}
+use Rattle.plane.specs.Table.{planeItems, planeTags, planeLimit, differences, planePattern}
 
 -- whether x is a member of a list
 abbrev pub member : ℕ → List ℕ → Bool
@@ -16,7 +16,7 @@ member x (y ∷ ys) = eqb x y || member x ys
 -- how many members of a list pass a test
 abbrev pub many : (ℕ → Bool) → List ℕ → ℕ
 many q [] = 0
-many q (x ∷ xs) = bit (q x) + many q xs
+many q (x ∷ xs) = indicator (q x) + many q xs
 
 -- how many pairs of members of D differ by δ, modulo m
 unfoldable pub pairs : ℕ → List ℕ → ℕ → ℕ
@@ -37,12 +37,12 @@ tagged t i = if leb i t then i else 0
 -- the plane of s
 unfoldable pub plane : ℕ → Family
 plane s = record {
-  items = itemsOf s;
-  rows = itemsOf s;
-  tags = tagsOf s;
-  limit = limitOf s;
-  on = on (itemsOf s) (differences s);
-  rowOfTag = tagged (tagsOf s);
-  tagOfRow = tagged (tagsOf s);
-  made = made (itemsOf s) (tagsOf s) (pattern s);
+  items = planeItems s;
+  rows = planeItems s;
+  tags = planeTags s;
+  limit = planeLimit s;
+  on = on (planeItems s) (differences s);
+  rowOfTag = tagged (planeTags s);
+  tagOfRow = tagged (planeTags s);
+  made = made (planeItems s) (planeTags s) (planePattern s);
 }

@@ -8,22 +8,22 @@ use lib.ListN.{getD}
 unfoldable pub itemCounts : List ℕ
 itemCounts = 0 ∷ 7 ∷ 21 ∷ 73 ∷ 273 ∷ []
 
-unfoldable pub itemsOf : ℕ → ℕ
-itemsOf s = getD itemCounts s 0
+unfoldable pub planeItems : ℕ → ℕ
+planeItems s = getD itemCounts s 0
 
 -- tags t
 unfoldable pub tagCounts : List ℕ
 tagCounts = 0 ∷ 4 ∷ 10 ∷ 28 ∷ 82 ∷ []
 
-unfoldable pub tagsOf : ℕ → ℕ
-tagsOf s = getD tagCounts s 0
+unfoldable pub planeTags : ℕ → ℕ
+planeTags s = getD tagCounts s 0
 
 -- disjunctness d (document 01: limit)
 unfoldable pub limits : List ℕ
 limits = 0 ∷ 2 ∷ 4 ∷ 8 ∷ 16 ∷ []
 
-unfoldable pub limitOf : ℕ → ℕ
-limitOf s = getD limits s 0
+unfoldable pub planeLimit : ℕ → ℕ
+planeLimit s = getD limits s 0
 
 -- the difference list D
 unfoldable pub differenceLists : List (List ℕ)
@@ -48,5 +48,5 @@ patternLists =
     ∷ (2 ∷ 4 ∷ 8 ∷ 14 ∷ 17 ∷ 19 ∷ 21 ∷ 22 ∷ 24 ∷ 25 ∷ 30 ∷ 31 ∷ 32 ∷ 34 ∷ 36 ∷ 40 ∷ 42 ∷ 43 ∷ 44 ∷ 46 ∷ 48 ∷ 49 ∷ 53 ∷ 55 ∷ 56 ∷ 57 ∷ 58 ∷ 69 ∷ 70 ∷ 71 ∷ 77 ∷ 78 ∷ 79 ∷ 81 ∷ 82 ∷ [])
     ∷ []
 
-unfoldable pub pattern : ℕ → List ℕ
-pattern s = getD patternLists s []
+unfoldable pub planePattern : ℕ → List ℕ
+planePattern s = getD patternLists s []

@@ -3,7 +3,7 @@
 ghost use mathlib.Core.Path.{_≡_};
 ghost use Prim.Native.Nat.{_<_};
 ghost use lib.ListN.{length, getD};
-ghost use Rattle.plane.specs.Table.{itemsOf, tagsOf, limitOf, differences, pattern};
+ghost use Rattle.plane.specs.Table.{planeItems, planeTags, planeLimit, differences, planePattern};
 ghost use Rattle.plane.specs.Plane.{many};
 ghost use lib.Dec.{leb};
 
@@ -90,21 +90,21 @@ fn column(t: [usize; 5], s: usize) -> usize
 
 // How many items there are (document 01: cards m), and as many rows.
 pub fn items(s: usize) -> usize
-    ensures { λ r. ⌜ r ≡ itemsOf s ⌝ }
+    ensures { λ r. ⌜ r ≡ planeItems s ⌝ }
 {
     column(ITEMS, s)
 }
 
 // How many rows carry tags.
 pub fn tags(s: usize) -> usize
-    ensures { λ r. ⌜ r ≡ tagsOf s ⌝ }
+    ensures { λ r. ⌜ r ≡ planeTags s ⌝ }
 {
     column(TAGS, s)
 }
 
 // The disjunctness (document 01: limit d).
 pub fn limit(s: usize) -> usize
-    ensures { λ r. ⌜ r ≡ limitOf s ⌝ }
+    ensures { λ r. ⌜ r ≡ planeLimit s ⌝ }
 {
     column(LIMITS, s)
 }
@@ -168,15 +168,15 @@ pub fn rank(s: usize, x: usize) -> usize
 
 // How many entries the row pattern has.
 pub fn step_count(s: usize) -> usize
-    ensures { λ r. ⌜ r ≡ length (pattern s) ⌝ }
+    ensures { λ r. ⌜ r ≡ length (planePattern s) ⌝ }
 {
     column(PATTERN_COUNTS, s)
 }
 
 // The pattern's entry at place k, from 0: how many rows back.
 pub fn step(s: usize, k: usize) -> usize
-    requires { ⌜ k < length (pattern s) ⌝ }
-    ensures { λ r. ⌜ r ≡ getD (pattern s) k 0 ⌝ }
+    requires { ⌜ k < length (planePattern s) ⌝ }
+    ensures { λ r. ⌜ r ≡ getD (planePattern s) k 0 ⌝ }
 {
     from_u8(PATTERNS[column(PATTERNS_AT, s) + k])
 }

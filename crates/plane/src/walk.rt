@@ -4,7 +4,7 @@ use crate::table;
 ghost use mathlib.Core.Path.{_≡_};
 ghost use Prim.Native.Nat.{_-_, _≤_, _<_};
 ghost use lib.ListN.{length, getD};
-ghost use Rattle.incidence.specs.Count.{count, inside};
+ghost use Rattle.incidence.specs.Count.{countUpTo, inside};
 ghost use Rattle.incidence.specs.Family.{rowsOf, itemsOf};
 ghost use Rattle.plane.specs.Plane.{plane, member};
 ghost use Rattle.plane.specs.Table.{differences};
@@ -54,7 +54,7 @@ pub fn row_count(s: usize, j: usize) -> usize
 
 // How many of the rows that hold item j are numbered below it: as many as there are differences below j.
 pub fn rows_below(s: usize, j: usize) -> usize
-    ensures { λ r. ⌜ r ≡ count (λ i. plane s .on i j) (j - 1) ⌝ }
+    ensures { λ r. ⌜ r ≡ countUpTo (λ i. plane s .on i j) (j - 1) ⌝ }
 {
     if inside(table::items(s), j) {
         table::rank(s, j - 1)
@@ -74,7 +74,7 @@ fn around(m: usize, x: usize) -> usize
 // The row at place k, from 0, among those that hold item j, by how many of them are below j, which a walk over all of them finds once;
 // with another number for that, any row or 0. The differences below j lead to the rows below j, the others to those behind.
 pub fn row_by(s: usize, j: usize, below: usize, k: usize) -> usize
-    ensures { λ r. ⌜ (below ≡ count (λ i. plane s .on i j) (j - 1) → r ≡ getD (rowsOf (plane s) j) k 0) ⌝ }
+    ensures { λ r. ⌜ (below ≡ countUpTo (λ i. plane s .on i j) (j - 1) → r ≡ getD (rowsOf (plane s) j) k 0) ⌝ }
 {
     let n = row_count(s, j);
     if n <= k {
@@ -108,7 +108,7 @@ pub fn item_count(s: usize, i: usize) -> usize
 
 // How many of the items that row i holds are numbered up to i: as many as there are differences above m − i.
 pub fn items_upto(s: usize, i: usize) -> usize
-    ensures { λ r. ⌜ r ≡ count (plane s .on i) i ⌝ }
+    ensures { λ r. ⌜ r ≡ countUpTo (plane s .on i) i ⌝ }
 {
     let m = table::items(s);
     if inside(m, i) {
@@ -121,7 +121,7 @@ pub fn items_upto(s: usize, i: usize) -> usize
 // The item at place k, from 0, among those that row i holds, by how many of them are up to i, likewise. The differences above m − i go
 // round to the first items.
 pub fn item_by(s: usize, i: usize, upto: usize, k: usize) -> usize
-    ensures { λ r. ⌜ (upto ≡ count (plane s .on i) i → r ≡ getD (itemsOf (plane s) i) k 0) ⌝ }
+    ensures { λ r. ⌜ (upto ≡ countUpTo (plane s .on i) i → r ≡ getD (itemsOf (plane s) i) k 0) ⌝ }
 {
     let n = item_count(s, i);
     if n <= k {

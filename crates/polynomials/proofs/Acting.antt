@@ -9,8 +9,8 @@ use lib.Dec.{eqb}
 use lib.Bits.{bitXor}
 use lib.ListN.{length, getD, take, length-take}
 use Rattle.cipher.specs.Block.{_⊕_, zeros}
-use Rattle.incidence.specs.Count.{bit}
-use Rattle.polynomials.specs.Polynomial.{longer, size, raised}
+use Rattle.incidence.specs.Count.{indicator}
+use Rattle.polynomials.specs.Polynomial.{longer, polySize, raised}
 use Rattle.polynomials.proofs.Sizes.{longer-most}
 use Rattle.polynomials.proofs.Parity.{xor-four, xor-none, and-xor}
 
@@ -48,34 +48,34 @@ act-sum (a ∷ p) (b ∷ q) f x hp hq e =
 
 -- ---- past its size a polynomial has no terms
 
-pub size-tail : (c n : ℕ) (p : List ℕ) → size (c ∷ p) ≤ suc n → size p ≤ n
-unfolding size longer
-size-tail c n p h = go (size p) h
+pub size-tail : (c n : ℕ) (p : List ℕ) → polySize (c ∷ p) ≤ suc n → polySize p ≤ n
+unfolding polySize longer
+size-tail c n p h = go (polySize p) h
   where
     go : (k : ℕ) → longer c k ≤ suc n → k ≤ n
     go zero h = omega arith
     go (suc k) h = omega arith
 
-pub size-none : (c : ℕ) (p : List ℕ) → size (c ∷ p) ≤ 0 → (eqb c 1 ≡ false) × (size p ≤ 0)
-unfolding size longer
-size-none c p h = go (size p) h
+pub size-none : (c : ℕ) (p : List ℕ) → polySize (c ∷ p) ≤ 0 → (eqb c 1 ≡ false) × (polySize p ≤ 0)
+unfolding polySize longer
+size-none c p h = go (polySize p) h
   where
     go : (k : ℕ) → longer c k ≤ 0 → (eqb c 1 ≡ false) × (k ≤ 0)
     go zero h = (none (eqb c 1) h, omega arith)
       where
-        none : (t : Bool) → bit t ≤ 0 → t ≡ false
+        none : (t : Bool) → indicator t ≤ 0 → t ≡ false
         none true h = absurd (omega arith)
         none false h = refl
     go (suc k) h = absurd (omega arith)
 
-pub act-none : (p : List ℕ) (f : ℕ → Bool) (x : ℕ) → size p ≤ 0 → act p f x ≡ false
+pub act-none : (p : List ℕ) (f : ℕ → Bool) (x : ℕ) → polySize p ≤ 0 → act p f x ≡ false
 unfolding act
 act-none [] f x h = refl
 act-none (c ∷ p) f x h =
     let n = size-none c p h in
     ap₂ (λ (t u : Bool). xor (t && f x) u) (n .0) (act-none p f (suc x) (n .1)) ∙ xor-none false
 
-pub act-take : (n : ℕ) (p : List ℕ) (f : ℕ → Bool) (x : ℕ) → size p ≤ n → act (take n p) f x ≡ act p f x
+pub act-take : (n : ℕ) (p : List ℕ) (f : ℕ → Bool) (x : ℕ) → polySize p ≤ n → act (take n p) f x ≡ act p f x
 unfolding act
 act-take zero p f x h = sym (act-none p f x h)
 act-take (suc n) [] f x h = refl
@@ -97,16 +97,16 @@ act-zero (suc n) f x = xor-none _ ∙ act-zero n f (suc x)
 
 -- ---- x^k times a polynomial
 
-size-zeros : (k : ℕ) (q : List ℕ) → size (zeros k ++ q) ≤ k + size q
-unfolding size
+size-zeros : (k : ℕ) (q : List ℕ) → polySize (zeros k ++ q) ≤ k + polySize q
+unfolding polySize
 size-zeros zero q = omega arith
-size-zeros (suc k) q = omega (arith, longer-most 0 (size (zeros k ++ q)), size-zeros k q)
+size-zeros (suc k) q = omega (arith, longer-most 0 (polySize (zeros k ++ q)), size-zeros k q)
 
 pub act-zeros : (k : ℕ) (q : List ℕ) (f : ℕ → Bool) (x : ℕ) → act (zeros k ++ q) f x ≡ act q f (x + k)
 unfolding act
 act-zeros zero q f x = let e : x ≡ x + 0 = omega arith in ap (act q f) e
 act-zeros (suc k) q f x = let e : suc x + k ≡ x + suc k = omega arith in xor-none _ ∙ act-zeros k q f (suc x) ∙ ap (act q f) e
 
-pub act-raised : (k : ℕ) (q : List ℕ) (f : ℕ → Bool) (x : ℕ) → size q + k ≤ length q → act (raised k q) f x ≡ act q f (x + k)
+pub act-raised : (k : ℕ) (q : List ℕ) (f : ℕ → Bool) (x : ℕ) → polySize q + k ≤ length q → act (raised k q) f x ≡ act q f (x + k)
 unfolding raised
 act-raised k q f x h = act-take (length q) (zeros k ++ q) f x (omega (arith, size-zeros k q)) ∙ act-zeros k q f x

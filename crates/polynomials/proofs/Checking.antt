@@ -9,8 +9,8 @@ use lib.Dec.{eqb, ltb}
 use lib.ListN.{set}
 use Rattle.cipher.specs.Block.{if_then_else_, _⊕_, zeros}
 use Rattle.incidence.specs.Family.{parity}
-use Rattle.polynomials.specs.Polynomial.{longer, size, raised, gcd}
-use Rattle.polynomials.specs.CyclicCode.{modulus, ofList, generator, check}
+use Rattle.polynomials.specs.Polynomial.{longer, polySize, raised, gcd}
+use Rattle.polynomials.specs.CyclicCode.{modulus, ofList, generatorPolynomial, checkPolynomial}
 use Rattle.polynomials.proofs.Parity.{xor-none, xor-turn, xor-four, xor-self, xor-and, parity-ext, parity-append, parity-map}
 use Rattle.polynomials.proofs.Sizes.{size-most}
 use Rattle.polynomials.proofs.Terms.{modulus-length, ofList-length}
@@ -52,11 +52,11 @@ module _ (m : ℕ) (some : 0 < m) where
   unfolding modulus
   poly-modulus = record { long = modulus-length m some; bits = (omega arith, bits-zeros (m - 1) (1 ∷ []) (omega arith, tt)) }
 
-  size-modulus : size (modulus m) ≡ suc m
-  unfolding modulus size longer
+  size-modulus : polySize (modulus m) ≡ suc m
+  unfolding modulus polySize longer
   size-modulus = ap (longer 1) (behind (m - 1)) ∙ (let e : suc (suc (m - 1)) ≡ suc m = omega arith in e)
     where
-      behind : (k : ℕ) → size (zeros k ++ (1 ∷ [])) ≡ suc k
+      behind : (k : ℕ) → polySize (zeros k ++ (1 ∷ [])) ≡ suc k
       behind zero = refl
       behind (suc k) = ap (longer 0) (behind k)
 
@@ -102,28 +102,28 @@ module _ (m : ℕ) (D : List ℕ) (some : 0 < m) where
   Q : Poly (suc m) (modulus m)
   Q = poly-modulus m some
 
-  G : Poly (suc m) (generator m D)
-  unfolding generator gcd
-  G = gcd-keeps (suc m) (Poly (suc m)) (λ p q k hp hq l kp kq. poly-sum (suc m) p q hp hq k) (size (ofList m D) + size (modulus m)) (ofList m D) (modulus m) P Q P Q
+  G : Poly (suc m) (generatorPolynomial m D)
+  unfolding generatorPolynomial gcd
+  G = gcd-keeps (suc m) (Poly (suc m)) (λ p q k hp hq l kp kq. poly-sum (suc m) p q hp hq k) (polySize (ofList m D) + polySize (modulus m)) (ofList m D) (modulus m) P Q P Q
 
-  ends : Ends (ofList m D) (modulus m) (generator m D)
-  unfolding generator gcd
-  ends = gcd-ends (suc m) (size (ofList m D) + size (modulus m)) (ofList m D) (modulus m) P Q (omega arith)
+  ends : Ends (ofList m D) (modulus m) (generatorPolynomial m D)
+  unfolding generatorPolynomial gcd
+  ends = gcd-ends (suc m) (polySize (ofList m D) + polySize (modulus m)) (ofList m D) (modulus m) P Q (omega arith)
 
-  pub generator-some : 0 < size (generator m D)
+  pub generator-some : 0 < polySize (generatorPolynomial m D)
   generator-some = ends .some (omega (arith, size-modulus m some))
 
-  pub generator-most : size (generator m D) ≤ suc m
-  generator-most = omega (arith, size-most (generator m D), G .long)
+  pub generator-most : polySize (generatorPolynomial m D) ≤ suc m
+  generator-most = omega (arith, size-most (generatorPolynomial m D), G .long)
 
   -- deg h = m − deg g
-  pub check-size : size (check m D) ≡ suc (suc m - size (generator m D))
-  unfolding check
+  pub check-size : polySize (checkPolynomial m D) ≡ suc (suc m - polySize (generatorPolynomial m D))
+  unfolding checkPolynomial
   check-size =
-      quotient-size (suc m) (generator m D) G generator-some (modulus m) Q (omega (arith, generator-most, size-modulus m some))
-      ∙ ap (λ (n : ℕ). suc (n - size (generator m D))) (size-modulus m some)
+      quotient-size (suc m) (generatorPolynomial m D) G generator-some (modulus m) Q (omega (arith, generator-most, size-modulus m some))
+      ∙ ap (λ (n : ℕ). suc (n - polySize (generatorPolynomial m D))) (size-modulus m some)
 
-  multiple-sum : (p q : List ℕ) (k : ℕ) → Poly (suc m) p → Poly (suc m) q → size q + k ≤ suc m → Multiple m D p → Multiple m D q
+  multiple-sum : (p q : List ℕ) (k : ℕ) → Poly (suc m) p → Poly (suc m) q → polySize q + k ≤ suc m → Multiple m D p → Multiple m D q
       → Multiple m D (p ⊕ raised k q)
   multiple-sum p q k hp hq l mp mq = record {
     turns = mp .turns ++ map (λ u. k + u) (mq .turns);
@@ -140,10 +140,10 @@ module _ (m : ℕ) (D : List ℕ) (some : 0 < m) where
   }
 
   -- Bézout's identity
-  pub bezout : Multiple m D (generator m D)
-  unfolding generator gcd parity
+  pub bezout : Multiple m D (generatorPolynomial m D)
+  unfolding generatorPolynomial gcd parity
   bezout =
-      gcd-keeps (suc m) (Multiple m D) multiple-sum (size (ofList m D) + size (modulus m)) (ofList m D) (modulus m) P Q
+      gcd-keeps (suc m) (Multiple m D) multiple-sum (polySize (ofList m D) + polySize (modulus m)) (ofList m D) (modulus m) P Q
       (record {
         turns = 0 ∷ [];
         says = λ f per x.
@@ -152,42 +152,42 @@ module _ (m : ℕ) (D : List ℕ) (some : 0 < m) where
       })
       (record { turns = []; says = λ f per x. act-modulus m some f x ∙ ap (xor (f x)) (per x) ∙ xor-self (f x) })
 
-  whole : Divided (suc m) (zeros (suc m)) (modulus m) (generator m D) (check m D)
-  unfolding check
-  whole = quotient-divided (suc m) (generator m D) G generator-some (modulus m) Q
+  whole : Divided (suc m) (zeros (suc m)) (modulus m) (generatorPolynomial m D) (checkPolynomial m D)
+  unfolding checkPolynomial
+  whole = quotient-divided (suc m) (generatorPolynomial m D) G generator-some (modulus m) Q
 
   -- what the generator polynomial takes to 0, the rest of the division does
-  rest-kills : (f : ℕ → Bool) → Kills (generator m D) f → Kills (whole .rest) f
+  rest-kills : (f : ℕ → Bool) → Kills (generatorPolynomial m D) f → Kills (whole .rest) f
   rest-kills f k x =
       sym (xor-none (act (whole .rest) f x))
-      ∙ ap (λ (t : Bool). xor t (act (whole .rest) f x)) (sym (act-ext (check m D) (act (generator m D) f) (λ y. false) x (λ i l. k (x + i)) ∙ act-nothing (check m D) x))
+      ∙ ap (λ (t : Bool). xor t (act (whole .rest) f x)) (sym (act-ext (checkPolynomial m D) (act (generatorPolynomial m D) f) (λ y. false) x (λ i l. k (x + i)) ∙ act-nothing (checkPolynomial m D) x))
       ∙ whole .says f x
-      ∙ ap₂ xor (act-zero (suc m) (act (generator m D) f) x) (ends .kills f k .1 x)
+      ∙ ap₂ xor (act-zero (suc m) (act (generatorPolynomial m D) f) x) (ends .kills f k .1 x)
       ∙ xor-none false
 
-  rest-none : size (whole .rest) ≡ 0
-  rest-none = go (size (generator m D)) refl
+  rest-none : polySize (whole .rest) ≡ 0
+  rest-none = go (polySize (generatorPolynomial m D)) refl
     where
-      go : (n : ℕ) → size (generator m D) ≡ n → size (whole .rest) ≡ 0
+      go : (n : ℕ) → polySize (generatorPolynomial m D) ≡ n → polySize (whole .rest) ≡ 0
       go zero e = omega (arith, whole .short)
       go (suc n) e =
-          shorter-none (generator m D) n e (whole .rest) (omega (arith, whole .short))
-          (rest-kills (recurring (generator m D) n e) (recurring-killed (generator m D) n e))
+          shorter-none (generatorPolynomial m D) n e (whole .rest) (omega (arith, whole .short))
+          (rest-kills (recurring (generatorPolynomial m D) n e) (recurring-killed (generatorPolynomial m D) n e))
 
   -- g(x) h(x) = x^m + 1
-  pub check-times : (f : ℕ → Bool) (x : ℕ) → act (check m D) (act (generator m D) f) x ≡ act (modulus m) f x
+  pub check-times : (f : ℕ → Bool) (x : ℕ) → act (checkPolynomial m D) (act (generatorPolynomial m D) f) x ≡ act (modulus m) f x
   check-times f x =
-      sym (ap (xor (act (check m D) (act (generator m D) f) x)) (act-none (whole .rest) f x (omega (arith, rest-none)))
-      ∙ xor-turn (act (check m D) (act (generator m D) f) x) false
-      ∙ xor-none (act (check m D) (act (generator m D) f) x))
+      sym (ap (xor (act (checkPolynomial m D) (act (generatorPolynomial m D) f) x)) (act-none (whole .rest) f x (omega (arith, rest-none)))
+      ∙ xor-turn (act (checkPolynomial m D) (act (generatorPolynomial m D) f) x) false
+      ∙ xor-none (act (checkPolynomial m D) (act (generatorPolynomial m D) f) x))
       ∙ whole .says f x
-      ∙ ap (λ (t : Bool). xor t (act (modulus m) f x)) (act-zero (suc m) (act (generator m D) f) x)
+      ∙ ap (λ (t : Bool). xor t (act (modulus m) f x)) (act-zero (suc m) (act (generatorPolynomial m D) f) x)
       ∙ xor-none (act (modulus m) f x)
 
   -- h(x) D(x) is 0 modulo x^m + 1
-  pub check-kills : (f : ℕ → Bool) → ((x : ℕ) → f (x + m) ≡ f x) → Kills (check m D) (act (ofList m D) f)
-  check-kills f per x = act-swap (check m D) (ofList m D) f x ∙ ends .kills (act (check m D) f) generator-kills .0 x
+  pub check-kills : (f : ℕ → Bool) → ((x : ℕ) → f (x + m) ≡ f x) → Kills (checkPolynomial m D) (act (ofList m D) f)
+  check-kills f per x = act-swap (checkPolynomial m D) (ofList m D) f x ∙ ends .kills (act (checkPolynomial m D) f) generator-kills .0 x
     where
-      generator-kills : Kills (generator m D) (act (check m D) f)
+      generator-kills : Kills (generatorPolynomial m D) (act (checkPolynomial m D) f)
       generator-kills x =
-          act-swap (generator m D) (check m D) f x ∙ check-times f x ∙ act-modulus m some f x ∙ ap (xor (f x)) (per x) ∙ xor-self (f x)
+          act-swap (generatorPolynomial m D) (checkPolynomial m D) f x ∙ check-times f x ∙ act-modulus m some f x ∙ ap (xor (f x)) (per x) ∙ xor-self (f x)

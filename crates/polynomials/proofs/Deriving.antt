@@ -10,7 +10,7 @@ use borrow.Author.Tests.{eq-eqb, ne-eqb}
 use Rattle.cipher.specs.Block.{zeros}
 use Rattle.incidence.proofs.Booleans.{or-first, or-second}
 use Rattle.polynomials.specs.Polynomial.{gcd, quotient}
-use Rattle.polynomials.specs.CyclicCode.{modulus, ofList, generator, check, stepsBack, pattern}
+use Rattle.polynomials.specs.CyclicCode.{modulus, ofList, generatorPolynomial, checkPolynomial, stepsBack, rowPattern}
 use Rattle.polynomials.specs.Deriving.{refuses, patternAnswer, patternWrites}
 use Rattle.polynomials.specs.declared.Derived.{Derived}
 use Rattle.polynomials.proofs.Terms.{modulus-length}
@@ -32,8 +32,8 @@ zeros-modulus m h f eh ef l = eh ∙ ap zeros (sym (ap length ef ∙ modulus-len
 
 -- the quotient is the check polynomial
 pub steps-pattern : (m : ℕ) (D d e g f h : List ℕ) → h ≡ quotient f g → f ≡ modulus m → g ≡ gcd d e → d ≡ ofList m D → e ≡ modulus m
-    → stepsBack h ≡ pattern m D
-unfolding pattern check generator
+    → stepsBack h ≡ rowPattern m D
+unfolding rowPattern checkPolynomial generatorPolynomial
 steps-pattern m D d e g f h eh ef eg ed ee = ap stepsBack (eh ∙ ap₂ quotient ef (eg ∙ ap₂ gcd ed ee))
 
 -- ---- where the call refuses
@@ -64,10 +64,10 @@ module _ (m : ℕ) (D : List ℕ) where
   unfolding patternWrites
   none-written o e = rw e
 
-  pub is-derived : (room n : ℕ) → refuses m room ≡ false → n ≡ length (pattern m D) → _≡_ {A = Derived} (record { ok = true; count = n }) (patternAnswer m D room)
+  pub is-derived : (room n : ℕ) → refuses m room ≡ false → n ≡ length (rowPattern m D) → _≡_ {A = Derived} (record { ok = true; count = n }) (patternAnswer m D room)
   unfolding patternAnswer
   is-derived room n e f = rw (e, f)
 
-  pub is-written : (o out : List ℕ) → refuses m (length o) ≡ false → out ≡ pattern m D ++ drop (length (pattern m D)) o → out ≡ patternWrites m D o
+  pub is-written : (o out : List ℕ) → refuses m (length o) ≡ false → out ≡ rowPattern m D ++ drop (length (rowPattern m D)) o → out ≡ patternWrites m D o
   unfolding patternWrites
   is-written o out e f = rw e f

@@ -10,9 +10,9 @@ use lib.ListN.{length, getD, take, List·getD-eq-default}
 use borrow.Author.Tests.{eqb-true, eq-eqb, ltb-true, ltb-false}
 use Rattle.cipher.specs.Block.{_⊕_, zeros}
 use Rattle.cipher.proofs.Xor.{⊕-at}
-use Rattle.incidence.specs.Count.{bit}
+use Rattle.incidence.specs.Count.{indicator}
 use Rattle.incidence.proofs.Booleans.{not-both}
-use Rattle.polynomials.specs.Polynomial.{longer, size, raised, less}
+use Rattle.polynomials.specs.Polynomial.{longer, polySize, raised, less}
 use Rattle.polynomials.proofs.Raising.{raised-length, raised-high, sum-length}
 use Rattle.polynomials.proofs.Acting.{Bits, size-tail, size-none}
 
@@ -23,30 +23,30 @@ pub record Poly (w : ℕ) (p : List ℕ) : Type 0 where
 
 -- ---- the last 1
 
-pub size-at : (p : List ℕ) (n : ℕ) → size p ≡ suc n → getD p n 0 ≡ 1
-unfolding size longer
+pub size-at : (p : List ℕ) (n : ℕ) → polySize p ≡ suc n → getD p n 0 ≡ 1
+unfolding polySize longer
 size-at [] n h = absurd (omega arith)
-size-at (c ∷ p) n h = go (size-at p) (size p) refl h
+size-at (c ∷ p) n h = go (size-at p) (polySize p) refl h
   where
-    one : (t : Bool) → eqb c 1 ≡ t → bit t ≡ suc n → getD (c ∷ p) n 0 ≡ 1
+    one : (t : Bool) → eqb c 1 ≡ t → indicator t ≡ suc n → getD (c ∷ p) n 0 ≡ 1
     one true e h = let z : n ≡ 0 = omega arith in ap (λ (i : ℕ). getD (c ∷ p) i 0) z ∙ eqb-true c 1 e
     one false e h = absurd (omega arith)
 
-    go : ((k : ℕ) → size p ≡ suc k → getD p k 0 ≡ 1) → (k : ℕ) → size p ≡ k → longer c k ≡ suc n → getD (c ∷ p) n 0 ≡ 1
+    go : ((k : ℕ) → polySize p ≡ suc k → getD p k 0 ≡ 1) → (k : ℕ) → polySize p ≡ k → longer c k ≡ suc n → getD (c ∷ p) n 0 ≡ 1
     go rest zero e h = one (eqb c 1) refl h
     go rest (suc k) e h = let z : n ≡ suc k = omega arith in ap (λ (i : ℕ). getD (c ∷ p) i 0) z ∙ rest k e
 
-pub size-above : (p : List ℕ) (n i : ℕ) → size p ≤ n → n ≤ i → getD p i 0 ≡ 1 → ⊥
+pub size-above : (p : List ℕ) (n i : ℕ) → polySize p ≤ n → n ≤ i → getD p i 0 ≡ 1 → ⊥
 size-above [] n i h l e = absurd (omega arith)
 size-above (c ∷ p) zero zero h l e = not-both (eqb c 1) (eq-eqb c 1 e) (size-none c p h .0)
 size-above (c ∷ p) (suc n) zero h l e = absurd (omega arith)
 size-above (c ∷ p) zero (suc i) h l e = size-above p zero i (size-none c p h .1) (omega arith) e
 size-above (c ∷ p) (suc n) (suc i) h l e = size-above p n i (size-tail c n p h) (omega arith) e
 
-pub size-by : (p : List ℕ) (n : ℕ) → ((i : ℕ) → n ≤ i → getD p i 0 ≡ 1 → ⊥) → size p ≤ n
-size-by p n h = go (size p) refl
+pub size-by : (p : List ℕ) (n : ℕ) → ((i : ℕ) → n ≤ i → getD p i 0 ≡ 1 → ⊥) → polySize p ≤ n
+size-by p n h = go (polySize p) refl
   where
-    go : (k : ℕ) → size p ≡ k → k ≤ n
+    go : (k : ℕ) → polySize p ≡ k → k ≤ n
     go zero e = omega arith
     go (suc k) e = below (ltb k n) refl
       where
@@ -86,28 +86,28 @@ module _ (w : ℕ) (p q : List ℕ) (P : Poly w p) (Q : Poly w q) where
 
   pub poly-less : Poly w (less p q)
   unfolding less
-  poly-less = poly-sum (size p - size q)
+  poly-less = poly-sum (polySize p - polySize q)
 
   -- no term of p's degree or above is left
-  pub less-shorter : 0 < size q → size q ≤ size p → size (less p q) < size p
+  pub less-shorter : 0 < polySize q → polySize q ≤ polySize p → polySize (less p q) < polySize p
   unfolding less
-  less-shorter l h = omega (arith, size-by (p ⊕ raised (size p - size q) q) (size p - 1) none)
+  less-shorter l h = omega (arith, size-by (p ⊕ raised (polySize p - polySize q) q) (polySize p - 1) none)
     where
       k : ℕ
-      k = size p - size q
+      k = polySize p - polySize q
 
-      zero-at : (r : List ℕ) (i : ℕ) → Bits r → size r ≤ i → getD r i 0 ≡ 0
-      zero-at r i b s = omega (arith, bits-at r i b, size-above r (size r) i (omega arith) s)
+      zero-at : (r : List ℕ) (i : ℕ) → Bits r → polySize r ≤ i → getD r i 0 ≡ 0
+      zero-at r i b s = omega (arith, bits-at r i b, size-above r (polySize r) i (omega arith) s)
 
-      term : (i : ℕ) → size p - 1 ≤ i → (t : Bool) → ltb i (size p) ≡ t → bitXor (getD p i 0) (getD q (i - k) 0) ≡ 0
+      term : (i : ℕ) → polySize p - 1 ≤ i → (t : Bool) → ltb i (polySize p) ≡ t → bitXor (getD p i 0) (getD q (i - k) 0) ≡ 0
       term i a true e =
-          let u : i < size p = ltb-true i (size p) e in
+          let u : i < polySize p = ltb-true i (polySize p) e in
           ap₂ bitXor (size-at p i (omega arith)) (size-at q (i - k) (omega arith))
       term i a false e =
-          let u : size p ≤ i = ltb-false i (size p) e in
+          let u : polySize p ≤ i = ltb-false i (polySize p) e in
           ap₂ bitXor (zero-at p i (P .bits) u) (zero-at q (i - k) (Q .bits) (omega arith))
 
-      none : (i : ℕ) → size p - 1 ≤ i → getD (p ⊕ raised k q) i 0 ≡ 1 → ⊥
+      none : (i : ℕ) → polySize p - 1 ≤ i → getD (p ⊕ raised k q) i 0 ≡ 1 → ⊥
       none i a e = inside (ltb i (length p)) refl
         where
           inside : (t : Bool) → ltb i (length p) ≡ t → ⊥
@@ -118,7 +118,7 @@ module _ (w : ℕ) (p q : List ℕ) (P : Poly w p) (Q : Poly w q) where
                 e,
                 ⊕-at p (raised k q) i u (omega (arith, raised-length k q, P .long, Q .long)),
                 ap (bitXor (getD p i 0)) (raised-high k q i (omega arith) (omega (arith, P .long, Q .long))),
-                term i a (ltb i (size p)) refl,
+                term i a (ltb i (polySize p)) refl,
               )
           inside false s =
               let u : length p ≤ i = ltb-false i (length p) s in

@@ -9,7 +9,7 @@ use lib.Dec.{eqb}
 use lib.ListN.{length, take}
 use borrow.Author.Tests.{eq-eqb, ne-eqb}
 use Rattle.incidence.proofs.Counting.{bit-most}
-use Rattle.polynomials.specs.Polynomial.{longer, size}
+use Rattle.polynomials.specs.Polynomial.{longer, polySize}
 use Rattle.polynomials.proofs.Parity.{xor-none, xor-self, xor-three, xor-turn}
 use Rattle.polynomials.proofs.Acting.{act, act-none, size-tail, take-few}
 use Rattle.polynomials.proofs.Lessening.{size-at}
@@ -26,17 +26,17 @@ act-ext (c ∷ p) f g x h =
     (act-ext p f g (suc x) (λ k l. let e : suc x + k ≡ x + suc k = omega arith in ap f e ∙ h (suc k) (omega arith) ∙ ap g (sym e)))
 
 -- a polynomial behind its first coefficient
-size-rest : (c r : ℕ) (p : List ℕ) → size (c ∷ p) ≡ suc (suc r) → size p ≡ suc r
-unfolding size longer
-size-rest c r p e = go (size p) e
+size-rest : (c r : ℕ) (p : List ℕ) → polySize (c ∷ p) ≡ suc (suc r) → polySize p ≡ suc r
+unfolding polySize longer
+size-rest c r p e = go (polySize p) e
   where
     go : (n : ℕ) → longer c n ≡ suc (suc r) → n ≡ suc r
     go zero e = absurd (omega (arith, bit-most (eqb c 1)))
     go (suc n) e = omega arith
 
 -- all but the highest term, and that one
-pub act-highest : (p : List ℕ) (r : ℕ) (f : ℕ → Bool) (x : ℕ) → size p ≡ suc r → act p f x ≡ xor (act (take r p) f x) (f (x + r))
-unfolding act size
+pub act-highest : (p : List ℕ) (r : ℕ) (f : ℕ → Bool) (x : ℕ) → polySize p ≡ suc r → act p f x ≡ xor (act (take r p) f x) (f (x + r))
+unfolding act polySize
 act-highest [] r f x e = absurd (omega arith)
 act-highest (c ∷ p) zero f x e =
     let z : x ≡ x + 0 = omega arith in
@@ -63,7 +63,7 @@ act-quiet p f x h = act-ext p f (λ y. false) x h ∙ act-nothing p x
 
 -- ---- the sequence of g, of degree n
 
-module _ (g : List ℕ) (n : ℕ) (degree : size g ≡ suc n) where
+module _ (g : List ℕ) (n : ℕ) (degree : polySize g ≡ suc n) where
   -- with the i places from n on as g says, and those behind them 0
   grown : ℕ → ℕ → Bool
   grown zero y = eqb (suc y) n
@@ -104,10 +104,10 @@ module _ (g : List ℕ) (n : ℕ) (degree : size g ≡ suc n) where
   first y l = is-grown 0 y (omega arith)
 
   -- a shorter polynomial that takes it to 0 is 0
-  pub shorter-none : (p : List ℕ) → size p ≤ n → Kills p recurring → size p ≡ 0
-  shorter-none p l k = go (size p) refl
+  pub shorter-none : (p : List ℕ) → polySize p ≤ n → Kills p recurring → polySize p ≡ 0
+  shorter-none p l k = go (polySize p) refl
     where
-      go : (s : ℕ) → size p ≡ s → s ≡ 0
+      go : (s : ℕ) → polySize p ≡ s → s ≡ 0
       go zero e = refl
       go (suc r) e =
           let x : ℕ = n - suc r in

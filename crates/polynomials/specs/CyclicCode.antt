@@ -7,7 +7,7 @@ use lib.Dec.{eqb, ltb}
 use lib.ListN.{getD, set}
 use Rattle.cipher.specs.Block.{if_then_else_, zeros}
 use Rattle.incidence.specs.Count.{listed}
-use Rattle.polynomials.specs.Polynomial.{size, gcd, quotient}
+use Rattle.polynomials.specs.Polynomial.{polySize, gcd, quotient}
 
 -- x^m + 1
 unfoldable pub modulus : ℕ → List ℕ
@@ -19,18 +19,18 @@ ofList m [] = zeros (suc m)
 ofList m (e ∷ D) = if ltb e m then set (ofList m D) e 1 else ofList m D
 
 -- the generator polynomial: the greatest common divisor of D(x) and x^m + 1
-unfoldable pub generator : ℕ → List ℕ → List ℕ
-generator m D = gcd (ofList m D) (modulus m)
+unfoldable pub generatorPolynomial : ℕ → List ℕ → List ℕ
+generatorPolynomial m D = gcd (ofList m D) (modulus m)
 
 -- the check polynomial h(x): the generator polynomial times h(x) is x^m + 1
-unfoldable pub check : ℕ → List ℕ → List ℕ
-check m D = quotient (modulus m) (generator m D)
+unfoldable pub checkPolynomial : ℕ → List ℕ → List ℕ
+checkPolynomial m D = quotient (modulus m) (generatorPolynomial m D)
 
 -- h(x) D(x) is 0 modulo x^m + 1, so the rows i + k, for the terms x^k of h(x), XOR to nothing. The last of them is row i + t, where t is h's degree, and it
 -- is the XOR of the others, which stand t − k rows back: these steps, rising
 unfoldable pub stepsBack : List ℕ → List ℕ
-stepsBack h = listed (λ k. eqb (getD h (size h - 1 - k) 0) 1) (size h - 1)
+stepsBack h = listed (λ k. eqb (getD h (polySize h - 1 - k) 0) 1) (polySize h - 1)
 
 -- the row pattern of a difference list
-unfoldable pub pattern : ℕ → List ℕ → List ℕ
-pattern m D = stepsBack (check m D)
+unfoldable pub rowPattern : ℕ → List ℕ → List ℕ
+rowPattern m D = stepsBack (checkPolynomial m D)

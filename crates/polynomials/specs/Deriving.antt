@@ -5,7 +5,7 @@ use Prim.Native.Nat.{ℕ}
 use lib.Dec.{eqb, ltb}
 use lib.ListN.{length, drop}
 use Rattle.cipher.specs.Block.{if_then_else_}
-use Rattle.polynomials.specs.CyclicCode.{pattern}
+use Rattle.polynomials.specs.CyclicCode.{rowPattern}
 use Rattle.polynomials.specs.declared.Derived.{Derived}
 
 -- m is 0 or larger than any plane, or there are fewer places than a pattern for m cards can have steps
@@ -14,8 +14,8 @@ refuses m room = (eqb m 0 || ltb 273 m) || ltb room m
 
 unfoldable pub patternAnswer : ℕ → List ℕ → ℕ → Derived
 patternAnswer m D room =
-    if refuses m room then record { ok = false; count = 0 } else record { ok = true; count = length (pattern m D) }
+    if refuses m room then record { ok = false; count = 0 } else record { ok = true; count = length (rowPattern m D) }
 
 -- the steps at the front; what is behind them stays, and everything where it refuses
 unfoldable pub patternWrites : ℕ → List ℕ → List ℕ → List ℕ
-patternWrites m D out = if refuses m (length out) then out else pattern m D ++ drop (length (pattern m D)) out
+patternWrites m D out = if refuses m (length out) then out else rowPattern m D ++ drop (length (rowPattern m D)) out

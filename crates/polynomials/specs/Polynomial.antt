@@ -7,17 +7,17 @@ use Prim.Native.Nat.{ℕ, zero, suc, _+_, _-_}
 use lib.Dec.{eqb, ltb}
 use lib.ListN.{length, take, set}
 use Rattle.cipher.specs.Block.{_⊕_, zeros}
-use Rattle.incidence.specs.Count.{bit}
+use Rattle.incidence.specs.Count.{indicator}
 
 -- a coefficient c, and the n behind it that end in the last 1
 unfoldable pub longer : ℕ → ℕ → ℕ
-longer c zero = bit (eqb c 1)
+longer c zero = indicator (eqb c 1)
 longer c (suc n) = suc (suc n)
 
 -- how many coefficients there are up to the last 1: the degree and one more, or 0 for the polynomial 0
-unfoldable pub size : List ℕ → ℕ
-size [] = 0
-size (c ∷ p) = longer c (size p)
+unfoldable pub polySize : List ℕ → ℕ
+polySize [] = 0
+polySize (c ∷ p) = longer c (polySize p)
 
 -- x^k times p, with as many coefficients as p
 unfoldable pub raised : ℕ → List ℕ → List ℕ
@@ -25,27 +25,27 @@ raised k p = take (length p) (zeros k ++ p)
 
 -- a step of long division: p less q times that power of x at which their highest terms are the same
 unfoldable pub less : List ℕ → List ℕ → List ℕ
-less p q = p ⊕ raised (size p - size q) q
+less p q = p ⊕ raised (polySize p - polySize q) q
 
 -- Euclid's algorithm in at most n steps: the longer polynomial is lessened by the other until one of the two is 0; their sum is then the other one
 unfoldable pub gcdIn : ℕ → List ℕ → List ℕ → List ℕ
 gcdIn zero p q = p ⊕ q
 gcdIn (suc n) p q =
-    elim (eqb (size p) 0 || eqb (size q) 0) [
+    elim (eqb (polySize p) 0 || eqb (polySize q) 0) [
       | true ↦ p ⊕ q
-      | false ↦ elim (ltb (size p) (size q)) [ true ↦ gcdIn n p (less q p) | false ↦ gcdIn n (less p q) q ]
+      | false ↦ elim (ltb (polySize p) (polySize q)) [ true ↦ gcdIn n p (less q p) | false ↦ gcdIn n (less p q) q ]
     ]
 
 -- the greatest common divisor: each step shortens one of the two
 unfoldable pub gcd : List ℕ → List ℕ → List ℕ
-gcd p q = gcdIn (size p + size q) p q
+gcd p q = gcdIn (polySize p + polySize q) p q
 
 -- long division of p by q in at most n steps, which add their terms to h
 unfoldable pub quotientIn : ℕ → List ℕ → List ℕ → List ℕ → List ℕ
 quotientIn zero h p q = h
 quotientIn (suc n) h p q =
-    elim (eqb (size q) 0 || ltb (size p) (size q)) [ true ↦ h | false ↦ quotientIn n (set h (size p - size q) 1) (less p q) q ]
+    elim (eqb (polySize q) 0 || ltb (polySize p) (polySize q)) [ true ↦ h | false ↦ quotientIn n (set h (polySize p - polySize q) 1) (less p q) q ]
 
 -- the quotient of p by q: each step shortens p
 unfoldable pub quotient : List ℕ → List ℕ → List ℕ
-quotient p q = quotientIn (size p) (zeros (length p)) p q
+quotient p q = quotientIn (polySize p) (zeros (length p)) p q

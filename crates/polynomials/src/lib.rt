@@ -6,9 +6,9 @@ ghost use Prim.Native.Nat.{ℕ, suc, _+_, _≤_, _<_};
 ghost use lib.Dec.{eqb, ltb};
 ghost use lib.ListN.{length, drop, set};
 ghost use Rattle.cipher.specs.Block.{if_then_else_, _⊕_, zeros};
-ghost use Rattle.incidence.specs.Count.{bit};
-ghost use Rattle.polynomials.specs.Polynomial.{size, raised, gcdIn, gcd, quotientIn, quotient};
-ghost use Rattle.polynomials.specs.CyclicCode.{modulus, ofList, stepsBack, pattern};
+ghost use Rattle.incidence.specs.Count.{indicator};
+ghost use Rattle.polynomials.specs.Polynomial.{polySize, raised, gcdIn, gcd, quotientIn, quotient};
+ghost use Rattle.polynomials.specs.CyclicCode.{modulus, ofList, stepsBack, rowPattern};
 ghost use Rattle.polynomials.specs.Deriving.{patternAnswer, patternWrites};
 
 // How many steps a pattern has, or that none was derived: the count is 0 then.
@@ -19,7 +19,7 @@ pub struct Derived {
 
 // How many coefficients there are up to the last 1.
 fn size(p: &[u8]) -> usize
-    ensures { λ r. ⌜ r ≡ size (now (p .entry)) ⌝ }
+    ensures { λ r. ⌜ r ≡ polySize (now (p .entry)) ⌝ }
 {
     let mut n = 0;
     let mut i = 0;
@@ -144,7 +144,7 @@ fn put_modulus(m: usize, p: &mut [u8])
 fn put_step(out: &mut [u16], at: usize, c: u8, k: usize) -> usize
     requires { ⌜ (at < length (now out)) × (k ≤ 273) ⌝ }
     ensures written { λ _. ⌜ now (out .exit) ≡ (if eqb c 1 then set (now (out .entry)) at k else now (out .entry)) ⌝ }
-    ensures behind { λ r. ⌜ r ≡ at + bit (eqb c 1) ⌝ }
+    ensures behind { λ r. ⌜ r ≡ at + indicator (eqb c 1) ⌝ }
 {
     if c != 1 {
         return at;
@@ -180,8 +180,8 @@ fn derive(
     out: &mut [u16],
 ) -> usize
     requires { ⌜ (0 < m) × (m ≤ 273) × (m ≤ length (now out)) × (now d ≡ zeros (suc m)) × (now e ≡ zeros (suc m)) × (now f ≡ zeros (suc m)) × (now h ≡ zeros (suc m)) ⌝ }
-    ensures written { λ _. ⌜ now (out .exit) ≡ pattern m (now (list .entry)) ++ drop (length (pattern m (now (list .entry)))) (now (out .entry)) ⌝ }
-    ensures count { λ r. ⌜ r ≡ length (pattern m (now (list .entry))) ⌝ }
+    ensures written { λ _. ⌜ now (out .exit) ≡ rowPattern m (now (list .entry)) ++ drop (length (rowPattern m (now (list .entry)))) (now (out .entry)) ⌝ }
+    ensures count { λ r. ⌜ r ≡ length (rowPattern m (now (list .entry))) ⌝ }
 {
     put_list(m, list, d);
     put_modulus(m, e);

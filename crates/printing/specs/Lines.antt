@@ -4,8 +4,8 @@ use Prim.Native.Nat.{ℕ, zero, suc}
 use lib.Dec.{eqb}
 use lib.ListN.{getD}
 use Rattle.cipher.specs.Block.{if_then_else_}
+use Rattle.incidence.specs.Report.{meaning}
 use Rattle.incidence.specs.declared.Answer.{Answer}
-use Rattle.incidence.specs.declared.Answer.the-variants.{Intact, Named, Beyond}
 use Rattle.sizes.specs.Sizes.{familyOf}
 use Rattle.files.specs.declared.Refusal.{Refusal}
 use Rattle.printing.specs.Text.{ascii, labelled}
@@ -16,9 +16,7 @@ limitsLine c n = labelled "cards " n ++ labelled " tags " (familyOf c .tags) ++ 
 
 -- "the answer (intact, named or beyond)"
 unfoldable pub answerWord : Answer → List ℕ
-answerWord Intact = ascii "intact"
-answerWord Named = ascii "named"
-answerWord Beyond = ascii "beyond"
+answerWord said = ascii (meaning said .word)
 
 -- "Line 2: the answer, the number named, "rows" and the number of disagreeing rows."
 unfoldable pub answerLine : Answer → ℕ → ℕ → List ℕ

@@ -12,7 +12,7 @@ use Rattle.cipher.proofs.Xor.{take-bytes, drop-bytes}
 use Rattle.sizes.specs.Sizes.{familyOf}
 use Rattle.sizes.proofs.Laws.{items-few}
 use Rattle.files.specs.Refusals.{none}
-use Rattle.files.specs.Message.{count, item, refuse3, refuse5}
+use Rattle.files.specs.Message.{itemCount, item, refuse3, refuse5}
 use Rattle.files.specs.TagFile.{countFits}
 use Rattle.files.proofs.Passing.{and-true, given}
 use Rattle.tagging.specs.Tagging.{keysIn, tagFile}
@@ -40,7 +40,7 @@ module _ (input : List ℕ) (bytes : Bytes input) where
   second = secondMessage input
 
   abbrev file : List ℕ
-  file = tagFile (keysIn keys) code (count first) (item first)
+  file = tagFile (keysIn keys) code (itemCount first) (item first)
 
   keys-bytes : Bytes keys
   unfolding keyBytes
@@ -51,22 +51,22 @@ module _ (input : List ℕ) (bytes : Bytes input) where
   first-bytes = take-bytes (firstSize input) (drop 51 input) (drop-bytes 51 input bytes)
 
   module _ (yes : readable input ≡ true) (tags : tagRefusal keys code first 1336 ≡ none) (head : refuse3 second ≡ none) (whole : refuse5 second ≡ none)
-      (same : count second ≡ count first) where
-    fit : countFits code (count second) ≡ true
+      (same : itemCount second ≡ itemCount first) where
+    fit : countFits code (itemCount second) ≡ true
     unfolding countFits
     fit =
         let T = taggable keys code first 1336 none (sym tags) refl in
         ap (countFits code) same
-        ∙ and-true _ _ (T .code) (and-true _ _ (le-leb 1 (count first) (T .low)) (le-leb (count first) (familyOf code .items) (T .high)))
+        ∙ and-true _ _ (T .code) (and-true _ _ (le-leb 1 (itemCount first) (T .low)) (le-leb (itemCount first) (familyOf code .items) (T .high)))
 
-    few : count second ≤ 273
+    few : itemCount second ≤ 273
     few =
         let T = taggable keys code first 1336 none (sym tags) refl in
         let h = T .high in
         let i = items-few code in
         omega (arith, h, i, same)
 
-    file-so : file ≡ tagFile (keysIn keys) code (count second) (item first)
+    file-so : file ≡ tagFile (keysIn keys) code (itemCount second) (item first)
     file-so = ap (λ (n : ℕ). tagFile (keysIn keys) code n (item first)) (sym same)
 
     passes-report : reportRefusal keys second file 273 ≡ none
@@ -78,12 +78,12 @@ module _ (input : List ℕ) (bytes : Bytes input) where
     abbrev lent : List ℕ
     lent = zeros 273
 
-    text-so : reportLines code (count first) (reportAnswer keys second file lent) (reportNamed keys second file lent) (reportRows keys second file lent)
-        (reportWrites keys second file lent) (count second) ≡ printed input
+    text-so : reportLines code (itemCount first) (reportAnswer keys second file lent) (reportNamed keys second file lent) (reportRows keys second file lent)
+        (reportWrites keys second file lent) (itemCount second) ≡ printed input
     unfolding printed
     text-so =
-        report-done keys code (count first) second file none (sym passes-report) refl _ _ _ _ _ refl refl refl refl refl
-        ∙ tag-done keys code first second none (sym tags) refl (count first) file refl refl
+        report-done keys code (itemCount first) second file none (sym passes-report) refl _ _ _ _ _ refl refl refl refl refl
+        ∙ tag-done keys code first second none (sym tags) refl (itemCount first) file refl refl
         ∙ sym (ap (λ (t : Bool). if t then tagText keys code first second else ascii "unreadable\n") yes)
 
     -- every sentence of demand 3 holds of what is printed

@@ -11,7 +11,7 @@ use Rattle.cipher.proofs.Slots.{slot-length}
 use Rattle.incidence.specs.declared.Answer.{Answer}
 use Rattle.sizes.specs.Sizes.{familyOf}
 use Rattle.files.specs.declared.Refusal.{Refusal}
-use Rattle.files.specs.Message.{number16, count, item}
+use Rattle.files.specs.Message.{number16, itemCount, item}
 use Rattle.files.specs.TagFile.{fileSize}
 use Rattle.files.proofs.Passing.{given, kept}
 use Rattle.tagging.specs.Tagging.{keysIn, tagSum, tagFile}
@@ -29,14 +29,14 @@ module _ (keys : List ℕ) (c n : ℕ) (s f : List ℕ) (r : Refusal) (e : r ≡
   marks = zeros 273
 
   abbrev lines : List ℕ
-  lines = reportLines c n (reportAnswer keys s f marks) (reportNamed keys s f marks) (reportRows keys s f marks) (reportWrites keys s f marks) (count s)
+  lines = reportLines c n (reportAnswer keys s f marks) (reportNamed keys s f marks) (reportRows keys s f marks) (reportWrites keys s f marks) (itemCount s)
 
   pub report-refused : (r .number ≡ 0 → ⊥) → refusedLine r ≡ reportText keys c n s f
   unfolding reportText
   report-refused h = ap refusedLine e ∙ kept r (reportRefusal keys s f 273) e lines (refusedLine (reportRefusal keys s f 273)) h
 
   pub report-done : r .number ≡ 0 → (said : Answer) (names rows k : ℕ) (written : List ℕ) → said ≡ reportAnswer keys s f marks → names ≡ reportNamed keys s f marks
-      → rows ≡ reportRows keys s f marks → written ≡ reportWrites keys s f marks → k ≡ count s → reportLines c n said names rows written k ≡ reportText keys c n s f
+      → rows ≡ reportRows keys s f marks → written ≡ reportWrites keys s f marks → k ≡ itemCount s → reportLines c n said names rows written k ≡ reportText keys c n s f
   unfolding reportText
   report-done h said names rows k written ea en er ew ek =
       (λ i. reportLines c n (ea i) (en i) (er i) (ew i) (ek i)) ∙ given r (reportRefusal keys s f 273) e lines (refusedLine (reportRefusal keys s f 273)) h
@@ -45,16 +45,16 @@ module _ (keys : List ℕ) (c n : ℕ) (s f : List ℕ) (r : Refusal) (e : r ≡
 
 module _ (keys : List ℕ) (c : ℕ) (s second : List ℕ) (r : Refusal) (e : r ≡ tagRefusal keys c s 1336) where
   abbrev file : List ℕ
-  file = tagFile (keysIn keys) c (count s) (item s)
+  file = tagFile (keysIn keys) c (itemCount s) (item s)
 
   pub tag-refused : (r .number ≡ 0 → ⊥) → refusedLine r ≡ tagText keys c s second
   unfolding tagText
-  tag-refused h = ap refusedLine e ∙ kept r (tagRefusal keys c s 1336) e (reportText keys c (count s) second file) (refusedLine (tagRefusal keys c s 1336)) h
+  tag-refused h = ap refusedLine e ∙ kept r (tagRefusal keys c s 1336) e (reportText keys c (itemCount s) second file) (refusedLine (tagRefusal keys c s 1336)) h
 
-  pub tag-done : r .number ≡ 0 → (n : ℕ) (f : List ℕ) → n ≡ count s → f ≡ file → reportText keys c n second f ≡ tagText keys c s second
+  pub tag-done : r .number ≡ 0 → (n : ℕ) (f : List ℕ) → n ≡ itemCount s → f ≡ file → reportText keys c n second f ≡ tagText keys c s second
   unfolding tagText
   tag-done h n f en ef =
-      (λ i. reportText keys c (en i) second (ef i)) ∙ given r (tagRefusal keys c s 1336) e (reportText keys c (count s) second file) (refusedLine (tagRefusal keys c s 1336)) h
+      (λ i. reportText keys c (en i) second (ef i)) ∙ given r (tagRefusal keys c s 1336) e (reportText keys c (itemCount s) second file) (refusedLine (tagRefusal keys c s 1336)) h
 
   -- the front of the buffer is the tag file
   pub tag-file : r .number ≡ 0 → (t end : ℕ) (out : List ℕ) → t ≡ familyOf c .tags → end ≡ 24 + 16 * t → out ≡ tagWrites keys c s (zeros 1336)
@@ -64,7 +64,7 @@ module _ (keys : List ℕ) (c : ℕ) (s second : List ℕ) (r : Refusal) (e : r 
       let T = taggable keys c s 1336 r e h in
       let K = keysIn keys in
       let size : length file ≡ fileSize c
-      = file-length K c (count s) (tagSum K c (item s) (count s)) (slot-length keys 1 (omega (arith, T .keys48))) (slot-length keys 2 (omega (arith, T .keys48))) in
+      = file-length K c (itemCount s) (tagSum K c (item s) (itemCount s)) (slot-length keys 1 (omega (arith, T .keys48))) (slot-length keys 2 (omega (arith, T .keys48))) in
       let long : length file ≡ end - 0 = size ∙ omega (arith, et, ee) in
       let whole : out ≡ file ++ drop (fileSize c) (zeros 1336) = eo ∙ sym (given r (tagRefusal keys c s 1336) e (file ++ drop (fileSize c) (zeros 1336)) (zeros 1336) h) in
       ap (take (end - 0)) whole ∙ take-at file (drop (fileSize c) (zeros 1336)) (end - 0) long

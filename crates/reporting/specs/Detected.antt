@@ -3,11 +3,11 @@
 use mathlib.Core.Path.{_≡_}
 use mathlib.Core.List.{List}
 use Prim.Native.Nat.{ℕ}
-use Rattle.incidence.specs.Count as tally
+use Rattle.incidence.specs.Count.{countUpTo}
 use Rattle.incidence.specs.Detection.{Detects}
 use Rattle.incidence.specs.declared.Answer.{Answer}
 use Rattle.sizes.specs.Sizes.{familyOf}
-use Rattle.files.specs.Message.{count, item}
+use Rattle.files.specs.Message.{itemCount, item}
 use Rattle.tagging.specs.Tagging.{keysIn}
 use Rattle.scheme.specs.Claim.{changed, NoRowCancels, marked}
 use Rattle.printing.specs.Lines.{reportLines}
@@ -18,9 +18,9 @@ pub record Detected (input : List ℕ) : Type 0 where
   pub names : ℕ
   pub rows : ℕ
   pub marks : List ℕ
-  pub text : printed input ≡ reportLines (codeByte input) (count (firstMessage input)) said names rows marks (count (secondMessage input))
-  pub number : names ≡ tally.count (marked marks) (count (secondMessage input))
+  pub text : printed input ≡ reportLines (codeByte input) (itemCount (firstMessage input)) said names rows marks (itemCount (secondMessage input))
+  pub number : names ≡ countUpTo (marked marks) (itemCount (secondMessage input))
   pub detects :
-      Detects (familyOf (codeByte input) .limit) (count (secondMessage input))
-      (NoRowCancels (familyOf (codeByte input)) (keysIn (keyBytes input)) (item (firstMessage input)) (item (secondMessage input)) (count (secondMessage input)))
+      Detects (familyOf (codeByte input) .limit) (itemCount (secondMessage input))
+      (NoRowCancels (familyOf (codeByte input)) (keysIn (keyBytes input)) (item (firstMessage input)) (item (secondMessage input)) (itemCount (secondMessage input)))
       (changed (item (firstMessage input)) (item (secondMessage input))) (marked marks) said

@@ -6,7 +6,7 @@ use lib.Dec.{leb}
 use lib.ListN.{length, getD, take, drop}
 use Rattle.cipher.specs.Block.{if_then_else_, zeros}
 use Rattle.files.specs.Refusals.{passes}
-use Rattle.files.specs.Message.{number16, count, item}
+use Rattle.files.specs.Message.{number16, itemCount, item}
 use Rattle.tagging.specs.Tagging.{keysIn, tagFile}
 use Rattle.scheme.specs.Calls.{tagRefusal, reportRefusal, reportAnswer, reportNamed, reportRows, reportWrites}
 use Rattle.printing.specs.Text.{ascii}
@@ -38,14 +38,14 @@ unfoldable pub reportText : List ℕ → ℕ → ℕ → List ℕ → List ℕ �
 reportText keys c n s f =
     let marks = zeros 273 in
     if passes (reportRefusal keys s f 273)
-    then reportLines c n (reportAnswer keys s f marks) (reportNamed keys s f marks) (reportRows keys s f marks) (reportWrites keys s f marks) (count s)
+    then reportLines c n (reportAnswer keys s f marks) (reportNamed keys s f marks) (reportRows keys s f marks) (reportWrites keys s f marks) (itemCount s)
     else refusedLine (reportRefusal keys s f 273)
 
 -- "It tags the first and reports the second."
 unfoldable pub tagText : List ℕ → ℕ → List ℕ → List ℕ → List ℕ
 tagText keys c s second =
     if passes (tagRefusal keys c s 1336)
-    then reportText keys c (count s) second (tagFile (keysIn keys) c (count s) (item s))
+    then reportText keys c (itemCount s) second (tagFile (keysIn keys) c (itemCount s) (item s))
     else refusedLine (tagRefusal keys c s 1336)
 
 -- "Input under 51 or over 65,536 bytes, or a length past the end, prints only "unreadable"."

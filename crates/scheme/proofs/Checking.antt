@@ -14,9 +14,9 @@ use Rattle.incidence.proofs.Counting.{inside-low, inside-high}
 use Rattle.sizes.specs.Sizes.{known, familyOf}
 use Rattle.files.specs.declared.Refusal.{Refusal}
 use Rattle.files.specs.Refusals.{none, passes, first}
-use Rattle.files.specs.Message.{count, refuse3, refuse5, refuse8}
+use Rattle.files.specs.Message.{itemCount, refuse3, refuse5, refuse8}
 use Rattle.files.specs.TagFile.{fileSize, codeOf, countOf, countFits, bodyOf, macOf, refuse6, refuse20}
-use Rattle.files.specs.Handed.{refuse1, refuse2, refuse4, refuse7, refuse9}
+use Rattle.files.specs.Arguments.{refuse1, refuse2, refuse4, refuse7, refuse9}
 use Rattle.files.proofs.Passing.{first-here, rest-passes, unless-passes, Plain, plain-unless, number-of, and-left, and-right}
 use Rattle.files.proofs.Messages.{plain3, plain5, headed}
 use Rattle.files.proofs.Accepted.{Formed, formed}
@@ -56,7 +56,7 @@ plain20 key f = plain-unless (same (macOf f) (cmac key (bodyOf f))) 20 0 (omega 
 
 pub plain21 : (s f : List ℕ) → Plain (refuse21 s f)
 unfolding refuse21
-plain21 s f = plain-unless (eqb (count s) (countOf f)) 21 0 (omega arith)
+plain21 s f = plain-unless (eqb (itemCount s) (countOf f)) 21 0 (omega arith)
 
 -- ---- two checks in one function
 
@@ -107,7 +107,7 @@ pub record Comparable (keys s f : List ℕ) : Type 0 where
   pub six : refuse6 f .number ≡ 0
   pub file : Formed f
   pub seal : refuse20 (keysIn keys .seal) f ≡ none
-  pub counts : count s ≡ countOf f
+  pub counts : itemCount s ≡ countOf f
 
 pub comparable : (keys s f : List ℕ) (r : Refusal) → r ≡ verifyRefusal keys s f → r .number ≡ 0 → Comparable keys s f
 unfolding verifyRefusal refuse21
@@ -125,7 +125,7 @@ comparable keys s f r e h =
       six = d .0;
       file = formed f (d .0);
       seal = plain20 key f (g .0);
-      counts = eqb-true _ _ (unless-passes (eqb (count s) (countOf f)) 21 0 (omega arith) (rest-passes (refuse21 s f) [] (g .1) .0));
+      counts = eqb-true _ _ (unless-passes (eqb (itemCount s) (countOf f)) 21 0 (omega arith) (rest-passes (refuse21 s f) [] (g .1) .0));
     }
 
 -- room for what a call writes
@@ -136,34 +136,34 @@ roomy size room h = leb-true size room (unless-passes (leb size room) 7 0 (omega
 -- Report
 pub record Reportable (keys s f : List ℕ) (room : ℕ) : Type 0 where
   pub files : Comparable keys s f
-  pub fits : count s ≤ room
+  pub fits : itemCount s ≤ room
 
 pub reportable : (keys s f : List ℕ) (room : ℕ) (r : Refusal) → r ≡ reportRefusal keys s f room → r .number ≡ 0 → Reportable keys s f room
 unfolding reportRefusal
 reportable keys s f room r e h =
-    let a = rest-passes (verifyRefusal keys s f) (refuse7 (count s) room ∷ []) (number-of r _ e h) in
-    record { files = comparable keys s f (verifyRefusal keys s f) refl (a .0); fits = roomy (count s) room (a .1) }
+    let a = rest-passes (verifyRefusal keys s f) (refuse7 (itemCount s) room ∷ []) (number-of r _ e h) in
+    record { files = comparable keys s f (verifyRefusal keys s f) refl (a .0); fits = roomy (itemCount s) room (a .1) }
 
 -- Tag
 pub record Taggable (keys : List ℕ) (c : ℕ) (s : List ℕ) (room : ℕ) : Type 0 where
   pub keys48 : length keys ≡ 48
   pub code : known c ≡ true
   pub message : Sound s
-  pub low : 1 ≤ count s
-  pub high : count s ≤ familyOf c .items
+  pub low : 1 ≤ itemCount s
+  pub high : itemCount s ≤ familyOf c .items
   pub fits : fileSize c ≤ room
 
 pub taggable : (keys : List ℕ) (c : ℕ) (s : List ℕ) (room : ℕ) (r : Refusal) → r ≡ tagRefusal keys c s room → r .number ≡ 0 → Taggable keys c s room
 unfolding tagRefusal refuse2 refuse4
 taggable keys c s room r e h =
     let last = refuse7 (fileSize c) room ∷ [] in
-    let a = rest-passes (refuse1 (length keys)) (refuse2 c ∷ refuse3 s ∷ refuse4 c (count s) ∷ refuse5 s ∷ last) (number-of r _ e h) in
-    let b = rest-passes (refuse2 c) (refuse3 s ∷ refuse4 c (count s) ∷ refuse5 s ∷ last) (a .1) in
-    let d = rest-passes (refuse3 s) (refuse4 c (count s) ∷ refuse5 s ∷ last) (b .1) in
-    let f = rest-passes (refuse4 c (count s)) (refuse5 s ∷ last) (d .1) in
+    let a = rest-passes (refuse1 (length keys)) (refuse2 c ∷ refuse3 s ∷ refuse4 c (itemCount s) ∷ refuse5 s ∷ last) (number-of r _ e h) in
+    let b = rest-passes (refuse2 c) (refuse3 s ∷ refuse4 c (itemCount s) ∷ refuse5 s ∷ last) (a .1) in
+    let d = rest-passes (refuse3 s) (refuse4 c (itemCount s) ∷ refuse5 s ∷ last) (b .1) in
+    let f = rest-passes (refuse4 c (itemCount s)) (refuse5 s ∷ last) (d .1) in
     let g = rest-passes (refuse5 s) last (f .1) in
     let l = headed s (d .0) in
-    let n = unless-passes (inside (familyOf c .items) (count s)) 4 0 (omega arith) (f .0) in
+    let n = unless-passes (inside (familyOf c .items) (itemCount s)) 4 0 (omega arith) (f .0) in
     record {
       keys48 = keys-long (length keys) (refuse1 (length keys)) refl (a .0);
       code = unless-passes (known c) 2 0 (omega arith) (b .0);

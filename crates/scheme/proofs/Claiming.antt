@@ -12,8 +12,8 @@ use lib.ListN.{length, getD, length-append, List·getD-append}
 use lib.Seq.{getD-at}
 use Rattle.cipher.specs.Block.{Bytes, same}
 use Rattle.cipher.proofs.Xor.{same-true, same-eq}
-use Rattle.incidence.specs.Count as tally
-use Rattle.incidence.specs.Count.{bit}
+use Rattle.incidence.specs.Count.{countUpTo}
+use Rattle.incidence.specs.Count.{indicator}
 use Rattle.incidence.specs.Sum.{rowSum}
 use Rattle.incidence.specs.Report.{named, numberNamed, answer}
 use Rattle.incidence.specs.Detection.{Detects, QuietRowsAgree, ChangedRowsDisagree}
@@ -25,7 +25,7 @@ use Rattle.incidence.proofs.Detection.{detects}
 use Rattle.incidence.proofs.Rejects.{detects-as}
 use Rattle.sizes.specs.Sizes.{familyOf}
 use Rattle.sizes.proofs.Laws.{lawful}
-use Rattle.files.specs.Message.{count, item}
+use Rattle.files.specs.Message.{itemCount, item}
 use Rattle.files.specs.TagFile.{tagPrefix, header, body, sealed, codeOf, countFits}
 use Rattle.decoding.specs.Decoding.{marksOf}
 use Rattle.tagging.specs.declared.Keys.{Keys}
@@ -40,18 +40,18 @@ use Rattle.scheme.proofs.Unaltered.{KeyBlocks, key-blocks, hashes-long,
 marks-length : (p : ℕ → Bool) (n : ℕ) → length (marksOf p n) ≡ n
 unfolding marksOf
 marks-length p zero = refl
-marks-length p (suc n) = let e = marks-length p n in length-append (marksOf p n) (bit (p (suc n)) ∷ []) ∙ omega arith
+marks-length p (suc n) = let e = marks-length p n in length-append (marksOf p n) (indicator (p (suc n)) ∷ []) ∙ omega arith
 
-mark-at : (p : ℕ → Bool) (n : ℕ) (j : ℕ) → j < n → getD (marksOf p n) j 0 ≡ bit (p (suc j))
+mark-at : (p : ℕ → Bool) (n : ℕ) (j : ℕ) → j < n → getD (marksOf p n) j 0 ≡ indicator (p (suc j))
 unfolding marksOf
 mark-at p zero j h = absurd (omega arith)
 mark-at p (suc n) j h = go (mark-at p n j) (eq-or-lt-of-le (le-of-suc-le-suc h))
   where
-    go : (j < n → getD (marksOf p n) j 0 ≡ bit (p (suc j))) → (j ≡ n) ⊎ (j < n) → getD (marksOf p n ++ (bit (p (suc n)) ∷ [])) j 0 ≡ bit (p (suc j))
-    go rest (inl e) = getD-at (marksOf p n) (bit (p (suc n))) [] 0 j (marks-length p n ∙ sym e) ∙ ap (λ (m : ℕ). bit (p (suc m))) (sym e)
-    go rest (inr b) = List·getD-append (marksOf p n) (bit (p (suc n)) ∷ []) 0 j (omega (arith, marks-length p n)) ∙ rest b
+    go : (j < n → getD (marksOf p n) j 0 ≡ indicator (p (suc j))) → (j ≡ n) ⊎ (j < n) → getD (marksOf p n ++ (indicator (p (suc n)) ∷ [])) j 0 ≡ indicator (p (suc j))
+    go rest (inl e) = getD-at (marksOf p n) (indicator (p (suc n))) [] 0 j (marks-length p n ∙ sym e) ∙ ap (λ (m : ℕ). indicator (p (suc m))) (sym e)
+    go rest (inr b) = List·getD-append (marksOf p n) (indicator (p (suc n)) ∷ []) 0 j (omega (arith, marks-length p n)) ∙ rest b
 
-bit-one : (b : Bool) → eqb (bit b) 1 ≡ b
+bit-one : (b : Bool) → eqb (indicator b) 1 ≡ b
 bit-one true = refl
 bit-one false = refl
 
@@ -66,32 +66,32 @@ marked-is p n rest marks e j l u =
 
 -- ---- the claim
 
-module _ (K : Keys) (B : KeyBlocks K) (s : List ℕ) (c : ℕ) (fit : countFits c (count s) ≡ true) (old : ℕ → List ℕ)
-    (bytes : (j : ℕ) → 1 ≤ j → j ≤ count s → Bytes (old j)) where
+module _ (K : Keys) (B : KeyBlocks K) (s : List ℕ) (c : ℕ) (fit : countFits c (itemCount s) ≡ true) (old : ℕ → List ℕ)
+    (bytes : (j : ℕ) → 1 ≤ j → j ≤ itemCount s → Bytes (old j)) where
   -- against the unaltered file, a row agrees where its sum is as it was
   row-agrees : (i : ℕ) → 1 ≤ i → i ≤ familyOf c .rows
-      → agrees K s (tagFile K c (count s) old) i ≡ same (rowSum (familyOf c) (hashes K (item s)) (count s) i) (rowSum (familyOf c) (hashes K old) (count s) i)
+      → agrees K s (tagFile K c (itemCount s) old) i ≡ same (rowSum (familyOf c) (hashes K (item s)) (itemCount s) i) (rowSum (familyOf c) (hashes K old) (itemCount s) i)
   unfolding agrees sumFrom
   row-agrees i l u =
-      ap₂ same (ap (λ (x : ℕ). rowSum (familyOf x) (hashes K (item s)) (count s) i) (code-is K B c (count s) fit old bytes)) (rows-back K B c (count s) fit old bytes i l u)
+      ap₂ same (ap (λ (x : ℕ). rowSum (familyOf x) (hashes K (item s)) (itemCount s) i) (code-is K B c (itemCount s) fit old bytes)) (rows-back K B c (itemCount s) fit old bytes i l u)
 
-  quiet : QuietRowsAgree (familyOf c) (count s) (changed old (item s)) (agrees K s (tagFile K c (count s) old))
+  quiet : QuietRowsAgree (familyOf c) (itemCount s) (changed old (item s)) (agrees K s (tagFile K c (itemCount s) old))
   unfolding changed hashes
   quiet i l u h =
       row-agrees i l u
-      ∙ same-eq _ _ (sym (rowSum-same (familyOf c) (hashes K old) (hashes-long K (B .item .long) old) (count s) (hashes K (item s)) i
+      ∙ same-eq _ _ (sym (rowSum-same (familyOf c) (hashes K old) (hashes-long K (B .item .long) old) (itemCount s) (hashes K (item s)) i
       (λ j a b o. ap (λ (x : List ℕ). hashes K (λ m. x) j) (same-true (old j) (item s j) (unchanged j a b o)))))
     where
-      unchanged : (j : ℕ) → 1 ≤ j → j ≤ count s → familyOf c .on i j ≡ true → same (old j) (item s j) ≡ true
+      unchanged : (j : ℕ) → 1 ≤ j → j ≤ itemCount s → familyOf c .on i j ≡ true → same (old j) (item s j) ≡ true
       unchanged j a b o = go (same (old j) (item s j)) refl
         where
           go : (t : Bool) → same (old j) (item s j) ≡ t → same (old j) (item s j) ≡ true
           go true e = e
           go false e = absurd (not-both (familyOf c .on i j) o (h j a b (ap not e)))
 
-  loud : NoRowCancels (familyOf c) K old (item s) (count s) → ChangedRowsDisagree (familyOf c) (count s) (changed old (item s)) (agrees K s (tagFile K c (count s) old))
+  loud : NoRowCancels (familyOf c) K old (item s) (itemCount s) → ChangedRowsDisagree (familyOf c) (itemCount s) (changed old (item s)) (agrees K s (tagFile K c (itemCount s) old))
   loud none i j l u a b ch o =
-      not-passed (agrees K s (tagFile K c (count s) old) i) (λ t. none i (record {
+      not-passed (agrees K s (tagFile K c (itemCount s) old) i) (λ t. none i (record {
         low = l;
         high = u;
         at = j;
@@ -102,26 +102,26 @@ module _ (K : Keys) (B : KeyBlocks K) (s : List ℕ) (c : ℕ) (fit : countFits 
         equal = sym (same-true _ _ (sym (row-agrees i l u) ∙ t));
       }))
 
-  claimed : (f marks rest : List ℕ) (names : ℕ) (said : Answer) → f ≡ tagFile K c (count s) old
-      → marks ≡ marksOf (named (familyOf (codeOf f)) (agrees K s f)) (count s) ++ rest
-      → names ≡ numberNamed (familyOf (codeOf f)) (agrees K s f) (count s)
-      → said ≡ answer (familyOf (codeOf f)) (agrees K s f) (count s)
-      → Detects (familyOf c .limit) (count s) (NoRowCancels (familyOf c) K old (item s) (count s)) (changed old (item s)) (marked marks) said
-      × (names ≡ tally.count (marked marks) (count s))
+  claimed : (f marks rest : List ℕ) (names : ℕ) (said : Answer) → f ≡ tagFile K c (itemCount s) old
+      → marks ≡ marksOf (named (familyOf (codeOf f)) (agrees K s f)) (itemCount s) ++ rest
+      → names ≡ numberNamed (familyOf (codeOf f)) (agrees K s f) (itemCount s)
+      → said ≡ answer (familyOf (codeOf f)) (agrees K s f) (itemCount s)
+      → Detects (familyOf c .limit) (itemCount s) (NoRowCancels (familyOf c) K old (item s) (itemCount s)) (changed old (item s)) (marked marks) said
+      × (names ≡ countUpTo (marked marks) (itemCount s))
   unfolding numberNamed
   claimed f marks rest names said ef em en es =
       let F = familyOf c in
-      let A = agrees K s (tagFile K c (count s) old) in
-      let e = code-is K B c (count s) fit old bytes in
-      let m = em ∙ ap (λ (x : List ℕ). marksOf (named (familyOf (codeOf x)) (agrees K s x)) (count s) ++ rest) ef
-      ∙ ap (λ (x : ℕ). marksOf (named (familyOf x) A) (count s) ++ rest) e in
-      let a = es ∙ ap (λ (x : List ℕ). answer (familyOf (codeOf x)) (agrees K s x) (count s)) ef ∙ ap (λ (x : ℕ). answer (familyOf x) A (count s)) e in
-      let k = en ∙ ap (λ (x : List ℕ). numberNamed (familyOf (codeOf x)) (agrees K s x) (count s)) ef ∙ ap (λ (x : ℕ). numberNamed (familyOf x) A (count s)) e in (
-        subst (λ (x : Answer). Detects (F .limit) (count s) (NoRowCancels F K old (item s) (count s)) (changed old (item s)) (marked marks) x) (sym a)
-            (detects-as (F .limit) (count s) _ _ (changed old (item s)) (named F A) (marked marks) (answer F A (count s)) loud
-            (marked-is (named F A) (count s) rest marks m)
-            (detects F (lawful c (fit-code K B c (count s) fit old bytes)) (count s) (fit-count K B c (count s) fit old bytes) (changed old (item s)) A quiet)),
-        k ∙ sym (count-ext (marked marks) (named F A) (count s) (marked-is (named F A) (count s) rest marks m)),
+      let A = agrees K s (tagFile K c (itemCount s) old) in
+      let e = code-is K B c (itemCount s) fit old bytes in
+      let m = em ∙ ap (λ (x : List ℕ). marksOf (named (familyOf (codeOf x)) (agrees K s x)) (itemCount s) ++ rest) ef
+      ∙ ap (λ (x : ℕ). marksOf (named (familyOf x) A) (itemCount s) ++ rest) e in
+      let a = es ∙ ap (λ (x : List ℕ). answer (familyOf (codeOf x)) (agrees K s x) (itemCount s)) ef ∙ ap (λ (x : ℕ). answer (familyOf x) A (itemCount s)) e in
+      let k = en ∙ ap (λ (x : List ℕ). numberNamed (familyOf (codeOf x)) (agrees K s x) (itemCount s)) ef ∙ ap (λ (x : ℕ). numberNamed (familyOf x) A (itemCount s)) e in (
+        subst (λ (x : Answer). Detects (F .limit) (itemCount s) (NoRowCancels F K old (item s) (itemCount s)) (changed old (item s)) (marked marks) x) (sym a)
+            (detects-as (F .limit) (itemCount s) _ _ (changed old (item s)) (named F A) (marked marks) (answer F A (itemCount s)) loud
+            (marked-is (named F A) (itemCount s) rest marks m)
+            (detects F (lawful c (fit-code K B c (itemCount s) fit old bytes)) (itemCount s) (fit-count K B c (itemCount s) fit old bytes) (changed old (item s)) A quiet)),
+        k ∙ sym (count-ext (marked marks) (named F A) (itemCount s) (marked-is (named F A) (itemCount s) rest marks m)),
       )
 
 -- a file that says a code says the code that it was laid out for
@@ -131,12 +131,12 @@ code-says K c n items = refl
 
 -- of every report that is not refused
 pub claim : (keys s f marks rest : List ℕ) (room names : ℕ) (said : Answer) → Bytes keys → Reportable keys s f room
-    → marks ≡ marksOf (named (familyOf (codeOf f)) (agrees (keysIn keys) s f)) (count s) ++ rest
-    → names ≡ numberNamed (familyOf (codeOf f)) (agrees (keysIn keys) s f) (count s)
-    → said ≡ answer (familyOf (codeOf f)) (agrees (keysIn keys) s f) (count s)
+    → marks ≡ marksOf (named (familyOf (codeOf f)) (agrees (keysIn keys) s f)) (itemCount s) ++ rest
+    → names ≡ numberNamed (familyOf (codeOf f)) (agrees (keysIn keys) s f) (itemCount s)
+    → said ≡ answer (familyOf (codeOf f)) (agrees (keysIn keys) s f) (itemCount s)
     → Claim keys s f marks names said
 claim keys s f marks rest room names said b R em en es c old bytes ef =
     let q = R .files in
-    let ec : codeOf f ≡ c = ap codeOf ef ∙ code-says (keysIn keys) c (count s) old in
-    let fit : countFits c (count s) ≡ true = ap₂ countFits (sym ec) (q .counts) ∙ q .file .fits in
+    let ec : codeOf f ≡ c = ap codeOf ef ∙ code-says (keysIn keys) c (itemCount s) old in
+    let fit : countFits c (itemCount s) ≡ true = ap₂ countFits (sym ec) (q .counts) ∙ q .file .fits in
     claimed (keysIn keys) (key-blocks keys b (q .keys48)) s c fit old bytes f marks rest names said ef em en es

@@ -10,7 +10,7 @@ use Rattle.cipher.specs.Block.{if_then_else_, _⊕_, slot, listOf, same}
 use Rattle.cipher.proofs.Xor.{same-true, same-eq}
 use Rattle.cipher.proofs.Slots.{slot-length, slot-front, listOf-length, listOf-ext, slot-listOf}
 use Rattle.sizes.specs.Sizes.{familyOf}
-use Rattle.files.specs.Message.{count, item}
+use Rattle.files.specs.Message.{itemCount, item}
 use Rattle.files.specs.TagFile.{fileSize, codeOf, countOf, tagsIn}
 use Rattle.files.proofs.Accepted.{Formed}
 use Rattle.keyed.specs.Keyed.{itemHash, tagOf, sumOfTag, tagsOf, sumsOf}
@@ -120,7 +120,7 @@ pub tags-long : (key sums y tags : List ℕ) (t : ℕ) → length key ≡ 16 →
 tags-long key sums y tags t hk h e = ap length e ∙ simp (length-append, length-drop) (omega (arith, tagsOf-length key sums t hk))
 
 module _ (k K : Keys) (s f z sums y tags : List ℕ) (c t end : ℕ) (hk : length (k .tag) ≡ 16) (ek : k ≡ K) (ec : c ≡ codeOf f) (et : t ≡ familyOf c .tags)
-    (ee : end ≡ 16 * t) (F : Formed f) (H : Holds (familyOf c .tags) (tagSum k c (item s) (count s)) z sums)
+    (ee : end ≡ 16 * t) (F : Formed f) (H : Holds (familyOf c .tags) (tagSum k c (item s) (itemCount s)) z sums)
     (e : tags ≡ tagsOf (k .tag) sums t ++ drop (16 * t) y) where
   -- the tags written are the message's
   pub tags-written : take (end - 0) tags ≡ tagsFor K (codeOf f) s

@@ -11,10 +11,9 @@ use lib.ListN.{length, drop}
 use borrow.Author.Tests.{eq-eqb, ne-eqb, le-leb}
 use Rattle.cipher.specs.Block.{if_then_else_, Bytes, _⊕_, same}
 use Rattle.cipher.proofs.Xor.{same-true, same-eq, take-bytes, drop-bytes, ⊕-assoc}
-use Rattle.incidence.specs.Count as tally
+use Rattle.incidence.specs.Count.{countUpTo}
 use Rattle.incidence.specs.Family.{Family}
 use Rattle.incidence.specs.Sum.{rowSum}
-use Rattle.incidence.specs.Report.{number}
 use Rattle.incidence.specs.declared.Answer.{Answer}
 use Rattle.incidence.specs.declared.Answer.the-variants.{Intact, Beyond}
 use Rattle.incidence.proofs.Booleans.{not-both}
@@ -22,9 +21,9 @@ use Rattle.incidence.proofs.Counting.{Found, found}
 use Rattle.incidence.proofs.Sums.{rowSum-same, rowSum-change}
 use Rattle.sizes.specs.Sizes.{familyOf}
 use Rattle.files.specs.Refusals.{none}
-use Rattle.files.specs.Message.{count, item, start, size, refuse3, refuse5}
+use Rattle.files.specs.Message.{itemCount, item, itemStart, itemSize, refuse3, refuse5}
 use Rattle.files.specs.TagFile.{fileSize, codeOf, countOf, tagsIn, countFits, refuse6, refuse20}
-use Rattle.files.specs.Handed.{refuse1, refuse7}
+use Rattle.files.specs.Arguments.{refuse1, refuse7}
 use Rattle.files.proofs.Passing.{first-later, first-none, unless-true, given, and-true}
 use Rattle.keyed.specs.Keyed.{itemHash}
 use Rattle.tagging.specs.Tagging.{keysIn, hashes, tagSum, fileOf, tagFile}
@@ -38,48 +37,48 @@ use Rattle.scheme.proofs.Unaltered.{key-blocks, hashes-long, code-is, c
 
 -- keys, message and file that pass each check by itself
 verify-passes : (keys s f : List ℕ) → length keys ≡ 48 → refuse3 s ≡ none → refuse5 s ≡ none → refuse6 f ≡ none → refuse20 (keysIn keys .seal) f ≡ none
-    → count s ≡ countOf f → verifyRefusal keys s f ≡ none
+    → itemCount s ≡ countOf f → verifyRefusal keys s f ≡ none
 unfolding verifyRefusal refuse1 refuse21
 verify-passes keys s f h a b d e g =
     first-later (refuse1 (length keys)) _ (unless-true _ 1 0 (eq-eqb (length keys) 48 h))
     ∙ first-later (refuse3 s) _ a ∙ first-later (refuse5 s) _ b ∙ first-later (refuse6 f) _ d ∙ first-later (refuse20 (keysIn keys .seal) f) _ e
-    ∙ first-none (refuse21 s f) (unless-true _ 21 0 (eq-eqb (count s) (countOf f) g))
+    ∙ first-none (refuse21 s f) (unless-true _ 21 0 (eq-eqb (itemCount s) (countOf f) g))
 
 -- Demand 3 is not empty: a report with the keys of an unaltered file, on a message of the same count that is not refused itself, and with
 -- room for the marks, is not refused.
 pub report-passes : (keys s : List ℕ) (c room : ℕ) (old : ℕ → List ℕ) → Bytes keys → length keys ≡ 48 → refuse3 s ≡ none → refuse5 s ≡ none
-    → countFits c (count s) ≡ true → ((j : ℕ) → 1 ≤ j → j ≤ count s → Bytes (old j)) → count s ≤ room
-    → reportRefusal keys s (tagFile (keysIn keys) c (count s) old) room ≡ none
+    → countFits c (itemCount s) ≡ true → ((j : ℕ) → 1 ≤ j → j ≤ itemCount s → Bytes (old j)) → itemCount s ≤ room
+    → reportRefusal keys s (tagFile (keysIn keys) c (itemCount s) old) room ≡ none
 unfolding reportRefusal refuse7
 report-passes keys s c room old b h p q fit bytes r =
     let K = keysIn keys in
     let B = key-blocks keys b h in
-    let a = accepted K B c (count s) fit old bytes in
-    first-later _ _ (verify-passes keys s (tagFile K c (count s) old) h p q (a .0) (a .1) (sym (count-is K B c (count s) fit old bytes)))
-    ∙ first-none (refuse7 (count s) room) (unless-true _ 7 0 (le-leb (count s) room r))
+    let a = accepted K B c (itemCount s) fit old bytes in
+    first-later _ _ (verify-passes keys s (tagFile K c (itemCount s) old) h p q (a .0) (a .1) (sym (count-is K B c (itemCount s) fit old bytes)))
+    ∙ first-none (refuse7 (itemCount s) room) (unless-true _ 7 0 (le-leb (itemCount s) room r))
 
 -- ---- Tag and Verify
 
 pub item-bytes : (s : List ℕ) → Bytes s → (j : ℕ) → Bytes (item s j)
 unfolding item
-item-bytes s b j = take-bytes (size s j) (drop (start s j) s) (drop-bytes (start s j) s b)
+item-bytes s b j = take-bytes (itemSize s j) (drop (itemStart s j) s) (drop-bytes (itemStart s j) s b)
 
 -- where Tag does not refuse, Verify accepts its file and says yes
 pub tag-verifies : (keys : List ℕ) (c : ℕ) (s : List ℕ) (room : ℕ) → Bytes keys → Bytes s → tagRefusal keys c s room ≡ none
-    → (verifyRefusal keys s (tagFile (keysIn keys) c (count s) (item s)) ≡ none) × (verifyYes keys s (tagFile (keysIn keys) c (count s) (item s)) ≡ true)
+    → (verifyRefusal keys s (tagFile (keysIn keys) c (itemCount s) (item s)) ≡ none) × (verifyYes keys s (tagFile (keysIn keys) c (itemCount s) (item s)) ≡ true)
 unfolding verifyYes tagsFor countFits
 tag-verifies keys c s room b m e =
     let t = taggable keys c s room none (sym e) refl in
     let K = keysIn keys in
     let B = key-blocks keys b (t .keys48) in
-    let fit = and-true _ _ (t .code) (and-true _ _ (le-leb 1 (count s) (t .low)) (le-leb (count s) (familyOf c .items) (t .high))) in
-    let bytes : (j : ℕ) → 1 ≤ j → j ≤ count s → Bytes (item s j) = λ j l u. item-bytes s m j in
-    let f = tagFile K c (count s) (item s) in
-    let a = accepted K B c (count s) fit (item s) bytes in
-    let v = verify-passes keys s f (t .keys48) (t .message .head) (t .message .whole) (a .0) (a .1) (sym (count-is K B c (count s) fit (item s) bytes)) in (
+    let fit = and-true _ _ (t .code) (and-true _ _ (le-leb 1 (itemCount s) (t .low)) (le-leb (itemCount s) (familyOf c .items) (t .high))) in
+    let bytes : (j : ℕ) → 1 ≤ j → j ≤ itemCount s → Bytes (item s j) = λ j l u. item-bytes s m j in
+    let f = tagFile K c (itemCount s) (item s) in
+    let a = accepted K B c (itemCount s) fit (item s) bytes in
+    let v = verify-passes keys s f (t .keys48) (t .message .head) (t .message .whole) (a .0) (a .1) (sym (count-is K B c (itemCount s) fit (item s) bytes)) in (
       v,
       sym (given none (verifyRefusal keys s f) (sym v) _ _ refl)
-          ∙ same-eq _ _ (ap (λ (x : ℕ). tagsFor K x s) (code-is K B c (count s) fit (item s) bytes) ∙ sym (tags-are K B c (count s) fit (item s) bytes)),
+          ∙ same-eq _ _ (ap (λ (x : ℕ). tagsFor K x s) (code-is K B c (itemCount s) fit (item s) bytes) ∙ sym (tags-are K B c (itemCount s) fit (item s) bytes)),
     )
 
 -- where Verify does not refuse, it says yes exactly when the message's tags equal the file's
@@ -148,20 +147,22 @@ module _ (keys : List ℕ) (b : Bytes keys) (h : length keys ≡ 48) (c n : ℕ)
 -- ---- what demand 3 rules out, of a report against the unaltered file of the old items
 
 module _ (keys s f marks : List ℕ) (names : ℕ) (said : Answer) (D : Claim keys s f marks names said) (c : ℕ) (old : ℕ → List ℕ)
-    (bytes : (j : ℕ) → 1 ≤ j → j ≤ count s → Bytes (old j)) (ef : f ≡ tagFile (keysIn keys) c (count s) old) where
+    (bytes : (j : ℕ) → 1 ≤ j → j ≤ itemCount s → Bytes (old j)) (ef : f ≡ tagFile (keysIn keys) c (itemCount s) old) where
   -- where at most d items changed and one did not, not every item is named
-  pub never-all-named : tally.count (changed old (item s)) (count s) ≤ familyOf c .limit → (j : ℕ) → 1 ≤ j → j ≤ count s → changed old (item s) j ≡ false
-      → ((i : ℕ) → 1 ≤ i → i ≤ count s → marked marks i ≡ true) → ⊥
+  pub never-all-named : countUpTo (changed old (item s)) (itemCount s) ≤ familyOf c .limit → (j : ℕ) → 1 ≤ j → j ≤ itemCount s → changed old (item s) j ≡ false
+      → ((i : ℕ) → 1 ≤ i → i ≤ itemCount s → marked marks i ≡ true) → ⊥
   never-all-named few j l u same all = not-both (marked marks j) (all j l u) (D c old bytes ef .0 .spares few j l u same)
 
   -- where an item changed and no row cancels, some item is named
-  pub never-none-named : NoRowCancels (familyOf c) (keysIn keys) old (item s) (count s) → 0 < tally.count (changed old (item s)) (count s)
-      → ((i : ℕ) → 1 ≤ i → i ≤ count s → marked marks i ≡ false) → ⊥
+  pub never-none-named : NoRowCancels (familyOf c) (keysIn keys) old (item s) (itemCount s) → 0 < countUpTo (changed old (item s)) (itemCount s)
+      → ((i : ℕ) → 1 ≤ i → i ≤ itemCount s → marked marks i ≡ false) → ⊥
   never-none-named free some all =
-      let w : Found (changed old (item s)) (count s) = found (changed old (item s)) (count s) some in
+      let w : Found (changed old (item s)) (itemCount s) = found (changed old (item s)) (itemCount s) some in
       not-both (marked marks (w .at)) (D c old bytes ef .0 .finds free (w .at) (w .low) (w .high) (w .passes)) (all (w .at) (w .low) (w .high))
 
   -- an unchanged message is not "beyond"
-  pub never-beyond : NoRowCancels (familyOf c) (keysIn keys) old (item s) (count s) → tally.count (changed old (item s)) (count s) ≡ 0 → said ≡ Beyond → ⊥
+  pub never-beyond : NoRowCancels (familyOf c) (keysIn keys) old (item s) (itemCount s) → countUpTo (changed old (item s)) (itemCount s) ≡ 0 → said ≡ Beyond → ⊥
   never-beyond free z b =
-      let e : number Beyond ≡ number Intact = ap number (sym b ∙ D c old bytes ef .0 .intact free .1 z) in omega arith
+      let e : Beyond ≡ Intact = sym b ∙ D c old bytes ef .0 .intact free .1 z in
+      let z : _≡_ {A = ℕ} 0 1 = cc in
+      omega arith

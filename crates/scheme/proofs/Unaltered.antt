@@ -11,8 +11,8 @@ use Rattle.cipher.specs.Block.{if_then_else_, Bytes, Block, _⊕_, slot, listOf
 use Rattle.cipher.proofs.Xor.{⊕-block, zeros-block, append-bytes, take-bytes, drop-bytes}
 use Rattle.cipher.proofs.Slots.{slot-length, listOf-length, slot-listOf}
 use Rattle.cipher.proofs.Laws.{cmac-length}
-use Rattle.incidence.specs.Sum.{sumOver, rowSum, had}
-use Rattle.incidence.proofs.Sums.{Values, had-ext, had-rowSum}
+use Rattle.incidence.specs.Sum.{sumOver, rowSum, expanded}
+use Rattle.incidence.proofs.Sums.{Values, expanded-ext, expanded-rowSum}
 use Rattle.sizes.specs.Sizes.{known, familyOf}
 use Rattle.sizes.proofs.Laws.{lawful}
 use Rattle.files.specs.Refusals.{none}
@@ -23,7 +23,7 @@ use Rattle.keyed.specs.Keyed.{itemHash, tagOf, sumOfTag}
 use Rattle.keyed.proofs.KeyedLaws.{itemHash-block, tagOf-block, tagOf-length, sumOfTag-tagOf}
 use Rattle.tagging.specs.declared.Keys.{Keys}
 use Rattle.tagging.specs.Tagging.{keysIn, hashes, tagSum, fileOf, tagFile}
-use Rattle.scheme.specs.Calls.{sumTagged, sumHad}
+use Rattle.scheme.specs.Calls.{sumTagged, sumExpanded}
 
 -- ---- keys and sums are blocks
 
@@ -121,10 +121,10 @@ module _ (K : Keys) (B : KeyBlocks K) (c n : ℕ) (fit : countFits c n ≡ true)
       ∙ sumOfTag-tagOf (K .tag) (B .tag) k (tagSum K c items n k) (sum-is-block k)
 
   -- and so are those of all rows
-  pub rows-back : (i : ℕ) → 1 ≤ i → i ≤ familyOf c .rows → sumHad K (tagFile K c n items) i ≡ rowSum (familyOf c) (hashes K items) n i
-  unfolding sumHad tagSum
+  pub rows-back : (i : ℕ) → 1 ≤ i → i ≤ familyOf c .rows → sumExpanded K (tagFile K c n items) i ≡ rowSum (familyOf c) (hashes K items) n i
+  unfolding sumExpanded tagSum
   rows-back i l u =
       let F = familyOf c in
-      ap (λ (x : ℕ). had (familyOf x) (sumTagged K (tagFile K c n items)) i) code-is
-      ∙ had-ext F (lawful c fit-code) (sumTagged K (tagFile K c n items)) (λ k. rowSum F (hashes K items) n (F .rowOfTag k)) sums-back i l u
-      ∙ had-rowSum F (lawful c fit-code) (hashes K items) (hashes-long K (B .item .long) items) n fit-count i l u
+      ap (λ (x : ℕ). expanded (familyOf x) (sumTagged K (tagFile K c n items)) i) code-is
+      ∙ expanded-ext F (lawful c fit-code) (sumTagged K (tagFile K c n items)) (λ k. rowSum F (hashes K items) n (F .rowOfTag k)) sums-back i l u
+      ∙ expanded-rowSum F (lawful c fit-code) (hashes K items) (hashes-long K (B .item .long) items) n fit-count i l u

@@ -6,16 +6,16 @@ use Prim.Native.Nat.{ℕ, suc, _-_}
 use lib.Dec.{eqb}
 use lib.ListN.{length, drop}
 use Rattle.cipher.specs.Block.{if_then_else_, same, _⊕_, slot, listOf}
-use Rattle.incidence.specs.Sum.{rowSum, had}
+use Rattle.incidence.specs.Sum.{rowSum, expanded}
 use Rattle.incidence.specs.Report.{named, numberNamed, disagreeing, answer}
 use Rattle.incidence.specs.declared.Answer.{Answer}
 use Rattle.incidence.specs.declared.Answer.the-variants.{Beyond}
 use Rattle.sizes.specs.Sizes.{familyOf}
 use Rattle.files.specs.declared.Refusal.{Refusal}
 use Rattle.files.specs.Refusals.{unless, passes, first}
-use Rattle.files.specs.Message.{count, item, refuse3, refuse5, refuse8}
+use Rattle.files.specs.Message.{itemCount, item, refuse3, refuse5, refuse8}
 use Rattle.files.specs.TagFile.{fileSize, codeOf, countOf, tagsIn, refuse6, refuse20}
-use Rattle.files.specs.Handed.{refuse1, refuse2, refuse4, refuse7, refuse9}
+use Rattle.files.specs.Arguments.{refuse1, refuse2, refuse4, refuse7, refuse9}
 use Rattle.keyed.specs.Keyed.{itemHash, tagOf, sumOfTag}
 use Rattle.decoding.specs.Decoding.{marksOf}
 use Rattle.tagging.specs.declared.Keys.{Keys}
@@ -23,19 +23,19 @@ use Rattle.tagging.specs.Tagging.{keysIn, hashes, tagSum, fileOf, tagFile}
 
 -- 21: "counts of shelf and sheet differ"
 unfoldable pub refuse21 : List ℕ → List ℕ → Refusal
-refuse21 s f = unless (eqb (count s) (countOf f)) 21 0
+refuse21 s f = unless (eqb (itemCount s) (countOf f)) 21 0
 
 -- ---- Tag (keys, size code, shelf): 1, 2, 3, 4, 5, 7. "Writes the sheet."
 
 -- `room` is the length of the buffer lent
 unfoldable pub tagRefusal : List ℕ → ℕ → List ℕ → ℕ → Refusal
 tagRefusal keys c s room =
-    first (refuse1 (length keys) ∷ refuse2 c ∷ refuse3 s ∷ refuse4 c (count s) ∷ refuse5 s ∷ refuse7 (fileSize c) room ∷ [])
+    first (refuse1 (length keys) ∷ refuse2 c ∷ refuse3 s ∷ refuse4 c (itemCount s) ∷ refuse5 s ∷ refuse7 (fileSize c) room ∷ [])
 
 -- what out holds at the end: "Output goes to the front of a lent buffer; the bytes behind stay."
 unfoldable pub tagWrites : List ℕ → ℕ → List ℕ → List ℕ → List ℕ
 tagWrites keys c s out =
-    if passes (tagRefusal keys c s (length out)) then tagFile (keysIn keys) c (count s) (item s) ++ drop (fileSize c) out else out
+    if passes (tagRefusal keys c s (length out)) then tagFile (keysIn keys) c (itemCount s) (item s) ++ drop (fileSize c) out else out
 
 -- ---- Verify (keys, shelf, sheet): 1, 3, 5, 6, 20, 21. "Yes when the shelf's tags equal the sheet's, else no."
 
@@ -45,7 +45,7 @@ verifyRefusal keys s f =
 
 -- the message's tags, one after another
 unfoldable pub tagsFor : Keys → ℕ → List ℕ → List ℕ
-tagsFor keys c s = listOf (λ k. tagOf (keys .tag) (suc k) (tagSum keys c (item s) (count s) (suc k))) (familyOf c .tags)
+tagsFor keys c s = listOf (λ k. tagOf (keys .tag) (suc k) (tagSum keys c (item s) (itemCount s) (suc k))) (familyOf c .tags)
 
 unfoldable pub verifyYes : List ℕ → List ℕ → List ℕ → Bool
 verifyYes keys s f = if passes (verifyRefusal keys s f) then same (tagsFor (keysIn keys) (codeOf f) s) (tagsIn f) else false
@@ -53,40 +53,40 @@ verifyYes keys s f = if passes (verifyRefusal keys s f) then same (tagsFor (keys
 -- ---- Report: as Verify, then 7
 
 unfoldable pub reportRefusal : List ℕ → List ℕ → List ℕ → ℕ → Refusal
-reportRefusal keys s f room = first (verifyRefusal keys s f ∷ refuse7 (count s) room ∷ [])
+reportRefusal keys s f room = first (verifyRefusal keys s f ∷ refuse7 (itemCount s) room ∷ [])
 
 -- row i's sum from the message
 unfoldable pub sumFrom : Keys → ℕ → List ℕ → ℕ → List ℕ
-sumFrom keys c s i = rowSum (familyOf c) (hashes keys (item s)) (count s) i
+sumFrom keys c s i = rowSum (familyOf c) (hashes keys (item s)) (itemCount s) i
 
 -- the sum that tag k of a file was made of: "The sum is had back from a tag by the deciphering."
 unfoldable pub sumTagged : Keys → List ℕ → ℕ → List ℕ
 sumTagged keys f k = sumOfTag (keys .tag) k (slot (tagsIn f) (k - 1))
 
 -- row i's sum from the file: "had back from its tag or, for a row without one, by its pattern"
-unfoldable pub sumHad : Keys → List ℕ → ℕ → List ℕ
-sumHad keys f i = had (familyOf (codeOf f)) (sumTagged keys f) i
+unfoldable pub sumExpanded : Keys → List ℕ → ℕ → List ℕ
+sumExpanded keys f i = expanded (familyOf (codeOf f)) (sumTagged keys f) i
 
 -- whether row i agrees: its "sum from the shelf equals its sum from the sheet"
 unfoldable pub agrees : Keys → List ℕ → List ℕ → ℕ → Bool
-agrees keys s f i = same (sumFrom keys (codeOf f) s i) (sumHad keys f i)
+agrees keys s f i = same (sumFrom keys (codeOf f) s i) (sumExpanded keys f i)
 
 -- "Writes n bytes, 1 named and 0 cleared"
 unfoldable pub reportWrites : List ℕ → List ℕ → List ℕ → List ℕ → List ℕ
 reportWrites keys s f out =
     if passes (reportRefusal keys s f (length out))
-    then marksOf (named (familyOf (codeOf f)) (agrees (keysIn keys) s f)) (count s) ++ drop (count s) out
+    then marksOf (named (familyOf (codeOf f)) (agrees (keysIn keys) s f)) (itemCount s) ++ drop (itemCount s) out
     else out
 
 -- the answer; a refused report says Beyond, so that no caller takes it for a good one
 unfoldable pub reportAnswer : List ℕ → List ℕ → List ℕ → List ℕ → Answer
 reportAnswer keys s f out =
-    if passes (reportRefusal keys s f (length out)) then answer (familyOf (codeOf f)) (agrees (keysIn keys) s f) (count s) else Beyond
+    if passes (reportRefusal keys s f (length out)) then answer (familyOf (codeOf f)) (agrees (keysIn keys) s f) (itemCount s) else Beyond
 
 -- "the number named and the number of rows that disagree", 0 where it refuses
 unfoldable pub reportNamed : List ℕ → List ℕ → List ℕ → List ℕ → ℕ
 reportNamed keys s f out =
-    if passes (reportRefusal keys s f (length out)) then numberNamed (familyOf (codeOf f)) (agrees (keysIn keys) s f) (count s) else 0
+    if passes (reportRefusal keys s f (length out)) then numberNamed (familyOf (codeOf f)) (agrees (keysIn keys) s f) (itemCount s) else 0
 
 unfoldable pub reportRows : List ℕ → List ℕ → List ℕ → List ℕ → ℕ
 reportRows keys s f out =

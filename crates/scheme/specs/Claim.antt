@@ -7,13 +7,13 @@ use Prim.Native.Nat.{ℕ, _-_, _≤_}
 use lib.Dec.{eqb}
 use lib.ListN.{getD}
 use Rattle.cipher.specs.Block.{Bytes, same}
-use Rattle.incidence.specs.Count as tally
+use Rattle.incidence.specs.Count.{countUpTo}
 use Rattle.incidence.specs.Family.{Family}
 use Rattle.incidence.specs.Sum.{rowSum}
 use Rattle.incidence.specs.Detection.{Detects}
 use Rattle.incidence.specs.declared.Answer.{Answer}
 use Rattle.sizes.specs.Sizes.{familyOf}
-use Rattle.files.specs.Message.{count, item}
+use Rattle.files.specs.Message.{itemCount, item}
 use Rattle.tagging.specs.declared.Keys.{Keys}
 use Rattle.tagging.specs.Tagging.{keysIn, hashes, tagFile}
 
@@ -44,6 +44,6 @@ marked marks j = eqb (getD marks (j - 1) 0) 1
 -- these keys. The number returned is that of the items named.
 abbrev pub Claim : List ℕ → List ℕ → List ℕ → List ℕ → ℕ → Answer → Type 0
 Claim keys s f marks names said =
-    (c : ℕ) (old : ℕ → List ℕ) → ((j : ℕ) → 1 ≤ j → j ≤ count s → Bytes (old j)) → f ≡ tagFile (keysIn keys) c (count s) old
-    → Detects (familyOf c .limit) (count s) (NoRowCancels (familyOf c) (keysIn keys) old (item s) (count s)) (changed old (item s)) (marked marks) said
-    × (names ≡ tally.count (marked marks) (count s))
+    (c : ℕ) (old : ℕ → List ℕ) → ((j : ℕ) → 1 ≤ j → j ≤ itemCount s → Bytes (old j)) → f ≡ tagFile (keysIn keys) c (itemCount s) old
+    → Detects (familyOf c .limit) (itemCount s) (NoRowCancels (familyOf c) (keysIn keys) old (item s) (itemCount s)) (changed old (item s)) (marked marks) said
+    × (names ≡ countUpTo (marked marks) (itemCount s))

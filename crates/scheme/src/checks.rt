@@ -1,7 +1,7 @@
 // What each call refuses, in document 01's order: the first that applies.
 use cipher::block;
 use files::Refusal;
-use files::handed;
+use files::arguments;
 use files::message;
 use files::tagfile;
 ghost use mathlib.Core.Path.{_≡_};
@@ -18,11 +18,11 @@ ghost use Rattle.scheme.specs.Calls.{refuse21, tagRefusal, verifyRefusal
 pub fn tag_refusal(keys: &[u8], code: u64, s: &[u8], room: usize) -> Refusal
     ensures { λ r. ⌜ r ≡ tagRefusal (now (keys .entry)) code (now (s .entry)) room ⌝ }
 {
-    let r = handed::check_keys(keys);
+    let r = arguments::check_keys(keys);
     if r.number != 0 {
         return r;
     }
-    let r = handed::check_code(code);
+    let r = arguments::check_code(code);
     if r.number != 0 {
         return r;
     }
@@ -30,7 +30,7 @@ pub fn tag_refusal(keys: &[u8], code: u64, s: &[u8], room: usize) -> Refusal
     if r.number != 0 {
         return r;
     }
-    let r = handed::check_count(code, message::number16(s, 5) as u64);
+    let r = arguments::check_count(code, message::number16(s, 5) as u64);
     if r.number != 0 {
         return r;
     }
@@ -38,7 +38,7 @@ pub fn tag_refusal(keys: &[u8], code: u64, s: &[u8], room: usize) -> Refusal
     if r.number != 0 {
         return r;
     }
-    handed::check_room(24 + 16 * sizes::tags(code), room)
+    arguments::check_room(24 + 16 * sizes::tags(code), room)
 }
 
 // The message file alone: 3, 5.
@@ -69,14 +69,14 @@ fn check_counts(s: &[u8], f: &[u8]) -> Refusal
     requires { ⌜ (7 ≤ length (now s)) × (8 ≤ length (now f)) ⌝ }
     ensures { λ r. ⌜ r ≡ refuse21 (now (s .entry)) (now (f .entry)) ⌝ }
 {
-    handed::unless(message::number16(s, 5) == message::number16(f, 6), 21, 0)
+    arguments::unless(message::number16(s, 5) == message::number16(f, 6), 21, 0)
 }
 
 // Verify: 1, 3, 5, 6, 20, 21.
 pub fn verify_refusal(keys: &[u8], s: &[u8], f: &[u8]) -> Refusal
     ensures { λ r. ⌜ r ≡ verifyRefusal (now (keys .entry)) (now (s .entry)) (now (f .entry)) ⌝ }
 {
-    let r = handed::check_keys(keys);
+    let r = arguments::check_keys(keys);
     if r.number != 0 {
         return r;
     }
@@ -99,7 +99,7 @@ pub fn report_refusal(keys: &[u8], s: &[u8], f: &[u8], room: usize) -> Refusal
     if r.number != 0 {
         return r;
     }
-    handed::check_room(message::number16(s, 5), room)
+    arguments::check_room(message::number16(s, 5), room)
 }
 
 // Replace: 1, 6, 20, 8, 9, 7.
@@ -113,7 +113,7 @@ pub fn replace_refusal(
 ) -> Refusal
     ensures { λ r. ⌜ r ≡ replaceRefusal (now (keys .entry)) (now (f .entry)) j (now (old .entry)) (now (new .entry)) room ⌝ }
 {
-    let r = handed::check_keys(keys);
+    let r = arguments::check_keys(keys);
     if r.number != 0 {
         return r;
     }
@@ -121,17 +121,17 @@ pub fn replace_refusal(
     if r.number != 0 {
         return r;
     }
-    let r = handed::check_number(message::number16(f, 6), j);
+    let r = arguments::check_number(message::number16(f, 6), j);
     if r.number != 0 {
         return r;
     }
-    let r = handed::check_item(old, 1);
+    let r = arguments::check_item(old, 1);
     if r.number != 0 {
         return r;
     }
-    let r = handed::check_item(new, 2);
+    let r = arguments::check_item(new, 2);
     if r.number != 0 {
         return r;
     }
-    handed::check_room(f.len(), room)
+    arguments::check_room(f.len(), room)
 }

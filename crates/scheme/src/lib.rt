@@ -13,7 +13,7 @@ ghost use lib.ListN.{length, drop};
 ghost use Rattle.cipher.specs.Block.{same};
 ghost use Rattle.incidence.specs.Report.{named, numberNamed, disagreeing, answer};
 ghost use Rattle.sizes.specs.Sizes.{familyOf};
-ghost use Rattle.files.specs.Message.{count, item};
+ghost use Rattle.files.specs.Message.{itemCount, item};
 ghost use Rattle.files.specs.TagFile.{fileSize, codeOf, countOf, tagsIn, refuse6};
 ghost use Rattle.sums.specs.Adding.{Holds};
 ghost use Rattle.decoding.specs.Decoding.{marksOf};
@@ -26,7 +26,7 @@ pub mod checks;
 // Writes the tag file of a message that is not refused to the front of out.
 fn write_tag_file(keys: &[u8], code: u64, s: &[u8], out: &mut [u8])
     requires { ⌜ tagRefusal (now keys) code (now s) (length (now out)) .number ≡ 0 ⌝ }
-    ensures { λ _. ⌜ now (out .exit) ≡ tagFile (keysIn (now (keys .entry))) code (count (now (s .entry))) (item (now (s .entry))) ++ drop (fileSize code) (now (out .entry)) ⌝ }
+    ensures { λ _. ⌜ now (out .exit) ≡ tagFile (keysIn (now (keys .entry))) code (itemCount (now (s .entry))) (item (now (s .entry))) ++ drop (fileSize code) (now (out .entry)) ⌝ }
 {
     let k = tagging::keys_in(keys);
     let n = files::message::number16(s, 5);
@@ -142,12 +142,12 @@ pub struct Reported {
     pub rows: usize,
 }
 
-// Decodes the row sums of a message that is not refused against those had back from the tag file.
+// Decodes the row sums of a message that is not refused against those expanded from the tag file.
 fn decode_files(keys: &[u8], s: &[u8], f: &[u8], marks: &mut [u8]) -> Decoded
     requires { ⌜ reportRefusal (now keys) (now s) (now f) (length (now marks)) .number ≡ 0 ⌝ }
-    ensures written { λ _. ⌜ now (marks .exit) ≡ marksOf (named (familyOf (codeOf (now (f .entry)))) (agrees (keysIn (now (keys .entry))) (now (s .entry)) (now (f .entry)))) (count (now (s .entry))) ++ drop (count (now (s .entry))) (now (marks .entry)) ⌝ }
-    ensures answer { λ r. ⌜ r .answer ≡ answer (familyOf (codeOf (now (f .entry)))) (agrees (keysIn (now (keys .entry))) (now (s .entry)) (now (f .entry))) (count (now (s .entry))) ⌝ }
-    ensures named { λ r. ⌜ r .named ≡ numberNamed (familyOf (codeOf (now (f .entry)))) (agrees (keysIn (now (keys .entry))) (now (s .entry)) (now (f .entry))) (count (now (s .entry))) ⌝ }
+    ensures written { λ _. ⌜ now (marks .exit) ≡ marksOf (named (familyOf (codeOf (now (f .entry)))) (agrees (keysIn (now (keys .entry))) (now (s .entry)) (now (f .entry)))) (itemCount (now (s .entry))) ++ drop (itemCount (now (s .entry))) (now (marks .entry)) ⌝ }
+    ensures answer { λ r. ⌜ r .answer ≡ answer (familyOf (codeOf (now (f .entry)))) (agrees (keysIn (now (keys .entry))) (now (s .entry)) (now (f .entry))) (itemCount (now (s .entry))) ⌝ }
+    ensures named { λ r. ⌜ r .named ≡ numberNamed (familyOf (codeOf (now (f .entry)))) (agrees (keysIn (now (keys .entry))) (now (s .entry)) (now (f .entry))) (itemCount (now (s .entry))) ⌝ }
     ensures rows { λ r. ⌜ r .rows ≡ disagreeing (agrees (keysIn (now (keys .entry))) (now (s .entry)) (now (f .entry))) (familyOf (codeOf (now (f .entry))) .rows) ⌝ }
 {
     let k = tagging::keys_in(keys);
@@ -157,9 +157,9 @@ fn decode_files(keys: &[u8], s: &[u8], f: &[u8], marks: &mut [u8]) -> Decoded
     tagging::sum_rows(code, k, s, &mut from);
     let mut tagged = [0u8; 1312];
     read_sums(k, f, &mut tagged);
-    let mut had = [0u8; 4368];
-    sums::fill_rows(code, &tagged, &mut had);
-    decoding::decode(code, n, &from, &had, marks)
+    let mut expanded = [0u8; 4368];
+    sums::fill_rows(code, &tagged, &mut expanded);
+    decoding::decode(code, n, &from, &expanded, marks)
 }
 
 // Report: writes a mark for each item of the message, 1 named and 0 cleared, to the front of marks; the bytes behind stay.

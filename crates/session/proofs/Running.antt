@@ -19,7 +19,7 @@ use Rattle.sizes.specs.Sizes.{known, familyOf}
 use Rattle.sizes.proofs.Laws.{tags-few}
 use Rattle.files.specs.Refusals.{refusal, none, first}
 use Rattle.files.specs.TagFile.{fileSize, countFits}
-use Rattle.files.specs.Handed.{refuse7, refuse9}
+use Rattle.files.specs.Arguments.{refuse7, refuse9}
 use Rattle.files.proofs.Passing.{unless-true, unless-false, and-left, and-true, given}
 use Rattle.keyed.specs.Keyed.{itemHash}
 use Rattle.sums.specs.Adding.{sumIn, Holds}

@@ -14,7 +14,7 @@ use Rattle.sizes.specs.Sizes.{known, familyOf}
 use Rattle.files.specs.declared.Refusal.{Refusal}
 use Rattle.files.specs.Refusals.{none, first}
 use Rattle.files.specs.TagFile.{fileSize, countFits}
-use Rattle.files.specs.Handed.{refuse1, refuse2, refuse4, refuse7, refuse9}
+use Rattle.files.specs.Arguments.{refuse1, refuse2, refuse4, refuse7, refuse9}
 use Rattle.files.proofs.Passing.{rest-passes, unless-passes, number-of, and-left, and-right}
 use Rattle.keyed.specs.Keyed.{itemHash}
 use Rattle.tagging.specs.declared.Keys.{Keys}

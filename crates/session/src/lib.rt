@@ -2,7 +2,7 @@
 // the next; nothing is held anywhere else.
 use cipher::cmac;
 use files::Refusal;
-use files::handed;
+use files::arguments;
 use files::tagfile;
 use tagging::Keys;
 ghost use mathlib.Core.Path.{_≡_};
@@ -11,7 +11,7 @@ ghost use mathlib.Core.List.{[], _∷_};
 ghost use Prim.Native.Nat.{_<_};
 ghost use Rattle.sizes.specs.Sizes.{known};
 ghost use Rattle.files.specs.Refusals.{first};
-ghost use Rattle.files.specs.Handed.{refuse7};
+ghost use Rattle.files.specs.Arguments.{refuse7};
 ghost use Rattle.files.specs.TagFile.{fileSize};
 ghost use Rattle.session.specs.Session.{closed, isOpen, refuse22, refuse23, refuse24, beginRefusal, beginGives, putRefusal, withItem, putGives, closeRefusal, closeGives, closeWrites};
 
@@ -70,9 +70,9 @@ fn closed() -> Session
 fn begin_refusal(keys: &[u8], code: u64, n: u64) -> Refusal
     ensures { λ r. ⌜ r ≡ beginRefusal (now (keys .entry)) code n ⌝ }
 {
-    let wrong_keys = handed::check_keys(keys);
-    let wrong_code = handed::check_code(code);
-    let wrong_count = handed::check_count(code, n);
+    let wrong_keys = arguments::check_keys(keys);
+    let wrong_code = arguments::check_code(code);
+    let wrong_count = arguments::check_count(code, n);
     first_of(wrong_keys, wrong_code, wrong_count)
 }
 
@@ -110,21 +110,21 @@ impl Session {
     fn check_open(self) -> Refusal
         ensures { λ r. ⌜ r ≡ refuse24 self ⌝ }
     {
-        handed::unless(self.is_open(), 24, 0)
+        arguments::unless(self.is_open(), 24, 0)
     }
 
     // Refusal 22, or none.
     fn check_more(self) -> Refusal
         ensures { λ r. ⌜ r ≡ refuse22 self ⌝ }
     {
-        handed::unless(self.taken < self.count, 22, 0)
+        arguments::unless(self.taken < self.count, 22, 0)
     }
 
     // Refusal 23, or none.
     fn check_all(self) -> Refusal
         ensures { λ r. ⌜ r ≡ refuse23 self ⌝ }
     {
-        handed::unless(self.taken == self.count, 23, self.taken as usize)
+        arguments::unless(self.taken == self.count, 23, self.taken as usize)
     }
 
     // Put's refusal: 24, 22 or 9, or none.
@@ -133,7 +133,7 @@ impl Session {
     {
         let shut = self.check_open();
         let full = self.check_more();
-        let long = handed::check_item(item, 0);
+        let long = arguments::check_item(item, 0);
         first_of(shut, full, long)
     }
 
@@ -183,7 +183,7 @@ impl Session {
         let size = 24 + 16 * sizes::tags(self.code);
         let shut = self.check_open();
         let early = self.check_all();
-        let short = handed::check_room(size, room);
+        let short = arguments::check_room(size, room);
         first_of(shut, early, short)
     }
 

@@ -2,14 +2,14 @@
 use mathlib.Core.Path.{refl}
 use mathlib.Core.Bool.{xor}
 use Rattle.incidence.specs.Family.{rowsOf, itemsOf, parity}
-use Rattle.incidence.specs.Report.{cleared, named, numberNamed, disagreeing, holdsNamed, unexplained, answerBy, answer}
-use Rattle.plane.specs.Table.{itemCounts, itemsOf as sizeOf, tagCounts, tagsOf, limits, limitOf, differenceLists, differences, patternLists, pattern}
+use Rattle.incidence.specs.Report.{cleared, named, numberNamed, disagreeing, holdsNamed, someUnexplained, answerBy, answer}
+use Rattle.plane.specs.Table.{itemCounts, planeItems, tagCounts, planeTags, limits, planeLimit, differenceLists, differences, patternLists, planePattern}
 use Rattle.plane.specs.Plane.{on, made, plane}
 use Rattle.sizes.specs.Sizes.{familyOf}
 use Rattle.sizes.specs.Cases.{PlaneCases, agreesWith, disagree, suspects}
 
 pub planes : PlaneCases
-unfolding familyOf plane on made itemsOf rowsOf parity xor sizeOf itemCounts tagsOf tagCounts limitOf limits differences differenceLists pattern patternLists agreesWith disagree suspects cleared named numberNamed disagreeing holdsNamed unexplained answerBy answer
+unfolding familyOf plane on made itemsOf rowsOf parity xor planeItems itemCounts planeTags tagCounts planeLimit limits differences differenceLists planePattern patternLists agreesWith disagree suspects cleared named numberNamed disagreeing holdsNamed someUnexplained answerBy answer
 planes = record {
   row-1 = refl;
   row-4 = refl;

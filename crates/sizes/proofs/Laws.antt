@@ -10,7 +10,7 @@ use Rattle.incidence.specs.Count.{inside}
 use Rattle.incidence.specs.Family.{Family, Lawful}
 use Rattle.incidence.proofs.Booleans.{not-both}
 use Rattle.incidence.proofs.Counting.{inside-low, inside-high, inside-yes}
-use Rattle.plane.specs.Table.{itemCounts, itemsOf, tagCounts, tagsOf, limits, limitOf}
+use Rattle.plane.specs.Table.{itemCounts, planeItems, tagCounts, planeTags, limits, planeLimit}
 use Rattle.plane.specs.Plane.{plane}
 use Rattle.plane.proofs.Rules.{rules}
 use Rattle.plane.proofs.Planes as planes
@@ -67,7 +67,7 @@ pub record Empty (F : Family) : Type 0 where
   pub no-limit : F .limit ≡ 0
 
 pub unknown : (c : ℕ) → known c ≡ false → Empty (familyOf c)
-unfolding familyOf plane known itemsOf itemCounts tagsOf tagCounts limitOf limits
+unfolding familyOf plane known planeItems itemCounts planeTags tagCounts planeLimit limits
 unknown zero h = record { no-items = refl; no-rows = refl; no-tags = refl; no-limit = refl }
 unknown (suc c) h =
     record { no-items = no-items (suc c) past; no-rows = no-items (suc c) past; no-tags = no-tags (suc c) past; no-limit = no-limit (suc c) past }

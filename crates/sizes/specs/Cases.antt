@@ -4,7 +4,7 @@ use mathlib.Core.Path.{_≡_}
 use mathlib.Core.Bool.{Bool, not, _&&_}
 use mathlib.Core.List.{List, [], _∷_}
 use Prim.Native.Nat.{ℕ}
-use Rattle.incidence.specs.Count.{any, listed}
+use Rattle.incidence.specs.Count.{anyUpTo, listed}
 use Rattle.incidence.specs.Family.{rowsOf, itemsOf, parity}
 use Rattle.incidence.specs.Report.{named, answer}
 use Rattle.incidence.specs.declared.Answer.the-variants.{Named, Beyond}
@@ -13,7 +13,7 @@ use Rattle.sizes.specs.Sizes.{familyOf}
 
 -- whether a row of size 1 agrees, with these items changed
 unfoldable pub agreesWith : List ℕ → ℕ → Bool
-agreesWith changed i = not (any (λ j. familyOf 1 .on i j && member j changed) 7)
+agreesWith changed i = not (anyUpTo (λ j. familyOf 1 .on i j && member j changed) 7)
 
 -- the rows that disagree, and the items that are not cleared
 unfoldable pub disagree : List ℕ → List ℕ

@@ -3,7 +3,7 @@
 ghost use mathlib.Core.Path.{_≡_};
 ghost use Prim.Native.Nat.{_-_};
 ghost use lib.ListN.{length, getD};
-ghost use Rattle.incidence.specs.Count.{count};
+ghost use Rattle.incidence.specs.Count.{countUpTo};
 ghost use Rattle.incidence.specs.Family.{rowsOf, itemsOf};
 ghost use Rattle.sizes.specs.Sizes.{known, familyOf};
 
@@ -58,14 +58,14 @@ pub fn row_count(code: u64, item: usize) -> usize
 
 // How many of the rows that hold an item are numbered below it.
 pub fn rows_below(code: u64, item: usize) -> usize
-    ensures { λ r. ⌜ r ≡ count (λ i. familyOf code .on i item) (item - 1) ⌝ }
+    ensures { λ r. ⌜ r ≡ countUpTo (λ i. familyOf code .on i item) (item - 1) ⌝ }
 {
     plane::walk::rows_below(code as usize, item)
 }
 
 // The row at place k, from 0, of those that hold an item, by how many of them are below it, which a walk over all asks once.
 pub fn row_by(code: u64, item: usize, below: usize, k: usize) -> usize
-    ensures { λ r. ⌜ (below ≡ count (λ i. familyOf code .on i item) (item - 1) → r ≡ getD (rowsOf (familyOf code) item) k 0) ⌝ }
+    ensures { λ r. ⌜ (below ≡ countUpTo (λ i. familyOf code .on i item) (item - 1) → r ≡ getD (rowsOf (familyOf code) item) k 0) ⌝ }
 {
     plane::walk::row_by(code as usize, item, below, k)
 }
@@ -86,7 +86,7 @@ pub fn item_count(code: u64, row: usize) -> usize
 
 // How many of the items that a row holds are numbered up to the row's number.
 pub fn items_upto(code: u64, row: usize) -> usize
-    ensures { λ r. ⌜ r ≡ count (familyOf code .on row) row ⌝ }
+    ensures { λ r. ⌜ r ≡ countUpTo (familyOf code .on row) row ⌝ }
 {
     plane::walk::items_upto(code as usize, row)
 }
@@ -94,7 +94,7 @@ pub fn items_upto(code: u64, row: usize) -> usize
 // The item at place k, from 0, of those that a row holds, by how many of them are up to its number, which a walk over all
 // asks once.
 pub fn item_by(code: u64, row: usize, upto: usize, k: usize) -> usize
-    ensures { λ r. ⌜ (upto ≡ count (familyOf code .on row) row → r ≡ getD (itemsOf (familyOf code) row) k 0) ⌝ }
+    ensures { λ r. ⌜ (upto ≡ countUpTo (familyOf code .on row) row → r ≡ getD (itemsOf (familyOf code) row) k 0) ⌝ }
 {
     plane::walk::item_by(code as usize, row, upto, k)
 }

@@ -11,17 +11,17 @@ use borrow.Author.Tests.{lt-ltb, le-ltb, ltb-true, ltb-false, eqb-true, eqb-fals
 use Rattle.cipher.specs.Block.{if_then_else_, _⊕_, slot, zeros}
 use Rattle.cipher.proofs.Xor.{⊕-length}
 use Rattle.cipher.proofs.Slots.{written, written-length, slot-here, slot-before, slot-after, drop-after, slot-length}
-use Rattle.incidence.specs.Count.{count, listed}
-use Rattle.incidence.specs.Sum.{sumOf, had}
+use Rattle.incidence.specs.Count.{countUpTo, listed}
+use Rattle.incidence.specs.Sum.{sumOf, expanded}
 use Rattle.incidence.specs.Family.{Family, Lawful, rowsOf}
 use Rattle.incidence.proofs.Listing.{Member, listed-rank, listed-length}
 use Rattle.incidence.proofs.Counting.{count-before}
-use Rattle.incidence.proofs.Sums.{sumOf-ext, had-all}
+use Rattle.incidence.proofs.Sums.{sumOf-ext, expanded-all}
 use Rattle.sums.specs.Adding.{sumIn, Holds, Added, addedAt, rowFrom}
 
 -- picked among the first k that pass
 abbrev pub passed : (ℕ → Bool) → ℕ → ℕ → Bool
-passed p k i = p i && ltb (count p (i - 1)) k
+passed p k i = p i && ltb (countUpTo p (i - 1)) k
 
 -- ---- one sum is written
 
@@ -59,18 +59,18 @@ module _ (s : List ℕ) (i : ℕ) (value : List ℕ) (low : 1 ≤ i) (fits : 16 
 
 -- ---- which rows are passed
 
-not-passed : (p : ℕ → Bool) (k i : ℕ) → k ≤ count p (i - 1) → passed p k i ≡ false
+not-passed : (p : ℕ → Bool) (k i : ℕ) → k ≤ countUpTo p (i - 1) → passed p k i ≡ false
 not-passed p k i h = go (p i)
   where
-    go : (b : Bool) → (b && ltb (count p (i - 1)) k) ≡ false
-    go true = le-ltb (count p (i - 1)) k h
+    go : (b : Bool) → (b && ltb (countUpTo p (i - 1)) k) ≡ false
+    go true = le-ltb (countUpTo p (i - 1)) k h
     go false = refl
 
-is-passed : (p : ℕ → Bool) (k i : ℕ) → p i ≡ true → count p (i - 1) < k → passed p k i ≡ true
-is-passed p k i e h = ap₂ _&&_ e (lt-ltb (count p (i - 1)) k h)
+is-passed : (p : ℕ → Bool) (k i : ℕ) → p i ≡ true → countUpTo p (i - 1) < k → passed p k i ≡ true
+is-passed p k i e h = ap₂ _&&_ e (lt-ltb (countUpTo p (i - 1)) k h)
 
 -- one step further, another number is passed or not as before
-as-before : (p : ℕ → Bool) (k j : ℕ) → (p j ≡ true → count p (j - 1) ≡ k → ⊥) → passed p (k + 1) j ≡ passed p k j
+as-before : (p : ℕ → Bool) (k j : ℕ) → (p j ≡ true → countUpTo p (j - 1) ≡ k → ⊥) → passed p (k + 1) j ≡ passed p k j
 as-before p k j ne = go (p j) refl
   where
     tests : (x : ℕ) → (x ≡ k → ⊥) → ltb x (k + 1) ≡ ltb x k
@@ -80,12 +80,12 @@ as-before p k j ne = go (p j) refl
         cases true e = lt-ltb x (k + 1) (omega (arith, ltb-true x k e))
         cases false e = le-ltb x (k + 1) (omega (arith, ltb-false x k e, n))
 
-    go : (b : Bool) → p j ≡ b → (b && ltb (count p (j - 1)) (k + 1)) ≡ (b && ltb (count p (j - 1)) k)
-    go true e = tests (count p (j - 1)) (ne e)
+    go : (b : Bool) → p j ≡ b → (b && ltb (countUpTo p (j - 1)) (k + 1)) ≡ (b && ltb (countUpTo p (j - 1)) k)
+    go true e = tests (countUpTo p (j - 1)) (ne e)
     go false e = refl
 
 -- as many rows are listed as pass
-pub rows-counted : (F : Family) (j : ℕ) → length (rowsOf F j) ≡ count (λ i. F .on i j) (F .rows)
+pub rows-counted : (F : Family) (j : ℕ) → length (rowsOf F j) ≡ countUpTo (λ i. F .on i j) (F .rows)
 unfolding rowsOf
 rows-counted F j = listed-length (λ i. F .on i j) (F .rows)
 
@@ -199,7 +199,7 @@ module _ (p : ℕ → Bool) (rows n : ℕ) (rowOf sumOfRow : ℕ → ℕ) (P : P
       go (suc m) z q = with-sum (suc m) (sym z) (omega arith) s′ (q ∙ sym (added-some s value (suc m) (omega arith)))
 
 pub walked-done : (p : ℕ → Bool) (rows n : ℕ) (rowOf sumOfRow : ℕ → ℕ) → Placed rows n rowOf sumOfRow → (value before s : List ℕ) (k : ℕ)
-    → Walked p rowOf n value before s k → count p rows ≤ k → Added (λ t. p (rowOf t)) n value before s
+    → Walked p rowOf n value before s k → countUpTo p rows ≤ k → Added (λ t. p (rowOf t)) n value before s
 walked-done p rows n rowOf sumOfRow P value before s k W h = record {
   size = W .size;
   sums = λ t l u. W .sums t l u ∙ ap (λ (b : Bool). if b then sumIn before t ⊕ value else sumIn before t) (all (rowOf t) (P .low t l u) (P .high t l u) (p (rowOf t)) refl);
@@ -208,7 +208,7 @@ walked-done p rows n rowOf sumOfRow P value before s k W h = record {
   where
     all : (i : ℕ) → 1 ≤ i → i ≤ rows → (b : Bool) → p i ≡ b → passed p k i ≡ p i
     all i l u true e = is-passed p k i e (omega (arith, count-before p rows i l u e)) ∙ sym e
-    all i l u false e = ap (λ (b : Bool). b && ltb (count p (i - 1)) k) e ∙ sym e
+    all i l u false e = ap (λ (b : Bool). b && ltb (countUpTo p (i - 1)) k) e ∙ sym e
 
 -- ---- the rows that a row is made of, from the last
 
@@ -285,11 +285,11 @@ fill-next F L tags before s v s′ k i ei less W fits long ev es = record {
         same j l b ∙ W .rows j l b ∙ from-same F L tags s s′ k less same j l (omega arith)
 
 pub fill-done : (F : Family) → Lawful F → (tags before s : List ℕ) (k : ℕ) → Filled F tags before s k → F .rows ≤ k
-    → Holds (F .rows) (had F (sumIn tags)) before s
+    → Holds (F .rows) (expanded F (sumIn tags)) before s
 unfolding rowFrom
 fill-done F L tags before s k W h = record {
   size = W .size;
-  sums = λ i l u. sym (had-all F L (sumIn tags) (sumIn s) tagged made i l u);
+  sums = λ i l u. sym (expanded-all F L (sumIn tags) (sumIn s) tagged made i l u);
   rest = W .rest;
 }
   where

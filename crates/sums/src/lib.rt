@@ -3,7 +3,7 @@ use cipher::block;
 ghost use mathlib.Core.Path.{_≡_};
 ghost use mathlib.Core.Bool.{true};
 ghost use Prim.Native.Nat.{_*_, _≤_};
-ghost use Rattle.incidence.specs.Sum.{sumOf, had};
+ghost use Rattle.incidence.specs.Sum.{sumOf, expanded};
 ghost use lib.ListN.{length};
 ghost use Rattle.sizes.specs.Sizes.{known, familyOf};
 ghost use Rattle.sums.specs.Adding.{sumIn, Holds, Added, addedAt, rowFrom};
@@ -86,7 +86,7 @@ fn row_from(code: u64, tags: &[u8], sums: &[u8], i: usize) -> [u8; 16]
 pub fn fill_rows(code: u64, tags: &[u8], sums: &mut [u8])
     requires { ⌜ known code ≡ true ⌝ }
     requires { ⌜ (16 * familyOf code .tags ≤ length (now tags)) × (16 * familyOf code .rows ≤ length (now sums)) ⌝ }
-    ensures { λ _. ⌜ Holds (familyOf code .rows) (had (familyOf code) (sumIn (now (tags .entry)))) (now (sums .entry)) (now (sums .exit)) ⌝ }
+    ensures { λ _. ⌜ Holds (familyOf code .rows) (expanded (familyOf code) (sumIn (now (tags .entry)))) (now (sums .entry)) (now (sums .exit)) ⌝ }
 {
     let n = sizes::rows(code);
     let mut k = 0;

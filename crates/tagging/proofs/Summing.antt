@@ -13,7 +13,7 @@ use Rattle.incidence.specs.Family.{Family}
 use Rattle.incidence.specs.Sum.{sumOver, rowSum}
 use Rattle.files.specs.declared.Refusal.{Refusal}
 use Rattle.files.specs.Refusals.{none}
-use Rattle.files.specs.Message.{number16, count, behind, start, size, item, refuse5}
+use Rattle.files.specs.Message.{number16, itemCount, behind, itemStart, itemSize, item, refuse5}
 use Rattle.files.proofs.Messages.{Fits, item-fits}
 use Rattle.sums.specs.Adding.{sumIn, Holds, Added}
 use Rattle.tagging.specs.declared.Keys.{Keys}
@@ -58,7 +58,7 @@ module _ (F : Family) (n : ℕ) (rowOf : ℕ → ℕ) (value : ℕ → List ℕ)
 -- ---- the bytes of an item as the walk meets them
 
 pub item-here : (s : List ℕ) (k j at e : ℕ) → at ≡ behind s k → j ≡ k + 1 → e ≡ at + 2 + number16 s at → take (e - (at + 2)) (drop (at + 2) s) ≡ item s j
-unfolding item size start
+unfolding item itemSize itemStart
 item-here s k j at e ea ej ee =
     let d : e - (at + 2) ≡ number16 s at = omega arith in
     let p : k ≡ j - 1 = omega arith in
@@ -91,6 +91,6 @@ keys-made s a b d ea eb ed = λ i. record { item = ea i; tag = eb i; seal = ed i
 
 -- ---- the next item of a file that is not refused
 
-module _ (s : List ℕ) (whole : refuse5 s ≡ none) (n at k : ℕ) (en : n ≡ count s) (ea : at ≡ behind s k) (less : k < n) where
+module _ (s : List ℕ) (whole : refuse5 s ≡ none) (n at k : ℕ) (en : n ≡ itemCount s) (ea : at ≡ behind s k) (less : k < n) where
   pub fits-here : Fits s at
   fits-here = subst (Fits s) (sym ea) (item-fits s k (ap (λ (r : Refusal). r .number) whole) (omega arith))

@@ -18,7 +18,7 @@ ghost use Rattle.cipher.specs.Cmac.{subkey1, subkey2};
 ghost use Rattle.incidence.specs.Sum.{rowSum};
 ghost use Rattle.sizes.specs.Sizes.{known, familyOf};
 ghost use Rattle.files.specs.Refusals.{none};
-ghost use Rattle.files.specs.Message.{count, item, refuse5};
+ghost use Rattle.files.specs.Message.{itemCount, item, refuse5};
 ghost use Rattle.files.specs.TagFile.{fileSize};
 ghost use Rattle.keyed.specs.Keyed.{itemHash};
 ghost use Rattle.sums.specs.Adding.{sumIn, Holds, Added};
@@ -59,7 +59,7 @@ pub fn sum_tags(code: u64, keys: Keys, s: &[u8], sums: &mut [u8])
     requires { ⌜ (7 ≤ length (now s)) × (length (now s) ≤ 65536) × (refuse5 (now s) ≡ none) ⌝ }
     requires { ⌜ 16 * familyOf code .tags ≤ length (now sums) ⌝ }
     requires { ⌜ ((k : ℕ) → 1 ≤ k → k ≤ familyOf code .tags → sumIn (now sums) k ≡ zeros 16) ⌝ }
-    ensures { λ _. ⌜ Holds (familyOf code .tags) (tagSum keys code (item (now (s .entry))) (count (now (s .entry)))) (now (sums .entry)) (now (sums .exit)) ⌝ }
+    ensures { λ _. ⌜ Holds (familyOf code .tags) (tagSum keys code (item (now (s .entry))) (itemCount (now (s .entry)))) (now (sums .entry)) (now (sums .exit)) ⌝ }
 {
     let key = keys.item;
     let k = cmac::prepare(key);
@@ -78,7 +78,7 @@ pub fn sum_rows(code: u64, keys: Keys, s: &[u8], sums: &mut [u8])
     requires { ⌜ (7 ≤ length (now s)) × (length (now s) ≤ 65536) × (refuse5 (now s) ≡ none) ⌝ }
     requires { ⌜ 16 * familyOf code .rows ≤ length (now sums) ⌝ }
     requires { ⌜ ((i : ℕ) → 1 ≤ i → i ≤ familyOf code .rows → sumIn (now sums) i ≡ zeros 16) ⌝ }
-    ensures { λ _. ⌜ Holds (familyOf code .rows) (rowSum (familyOf code) (hashes keys (item (now (s .entry)))) (count (now (s .entry)))) (now (sums .entry)) (now (sums .exit)) ⌝ }
+    ensures { λ _. ⌜ Holds (familyOf code .rows) (rowSum (familyOf code) (hashes keys (item (now (s .entry)))) (itemCount (now (s .entry)))) (now (sums .entry)) (now (sums .exit)) ⌝ }
 {
     let key = keys.item;
     let k = cmac::prepare(key);

@@ -3,7 +3,7 @@ use mathlib.Core.Path.{_≡_, _∙_}
 use mathlib.Core.Logic.{⊎-elim}
 use Prim.Native.Nat.{_-_, _≤_}
 use native.Mathlib.Omega.{arith}
-use Rattle.incidence.specs.Count.{count}
+use Rattle.incidence.specs.Count.{countUpTo}
 use Rattle.incidence.proofs.Counting.{count-most}
 use Rattle.decoding.specs.Decoding.{isMarked}
 use Rattle.decoding.proofs.Picking.{counted-more, counted-same, counted-done}
@@ -12,7 +12,7 @@ use Rattle.decoding.proofs.count_named.Statement.{statement}
 use Rattle.decoding.proofs.count_named.Tie as tie
 
 abbrev Inv-loop : tie.InvT-loop
-Inv-loop marks n found₀ i₀ found i = (i ≤ n) × (found ≡ count (isMarked marks) i)
+Inv-loop marks n found₀ i₀ found i = (i ≤ n) × (found ≡ countUpTo (isMarked marks) i)
 
 abbrev μ-loop : tie.MeasureT-loop
 μ-loop marks n found₀ i₀ found i = n - i

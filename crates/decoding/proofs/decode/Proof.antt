@@ -3,7 +3,7 @@ use mathlib.Core.Path.{_∙_}
 use Rattle.incidence.specs.Report.{named}
 use Rattle.sizes.specs.Sizes.{familyOf}
 use Rattle.decoding.specs.Decoding.{agreesIn}
-use Rattle.decoding.proofs.Marks.{named-marked, count-is, stray-is, answer-is, marked-list}
+use Rattle.decoding.proofs.Marks.{named-marked, count-is, unexplained-is, answer-is, marked-list}
 use borrow.Author.Needs.{needs}
 use Rattle.decoding.proofs.decode.Statement.{statement}
 use Rattle.decoding.proofs.decode.Tie as tie
@@ -42,9 +42,9 @@ returns c =
     let clears = g .clear-agreeing .ensures .0 in
     let rows = g .clear-agreeing .ensures .1 in
     let names = n .count-named .ensures ∙ count-is F agrees all clears in
-    let stray = s .find-unexplained .ensures ∙ stray-is F agrees all clears in
+    let found = s .find-unexplained .ensures ∙ unexplained-is F agrees all clears in
     let written = marked-list (named F agrees) (d .args .n) _ _ (named-marked F agrees all clears) (d .pre .0 .1) in
-    (written, (c .choose .ensures ∙ answer-is F agrees (d .args .n) _ _ _ _ (c .before .limit .ensures) rows names stray, (names, rows)))
+    (written, (c .choose .ensures ∙ answer-is F agrees (d .args .n) _ _ _ _ (c .before .limit .ensures) rows names found, (names, rows)))
 
 pub decode-spec : {M : Type 1} → statement M
 decode-spec =

@@ -3,17 +3,17 @@ use mathlib.Core.Path.{_≡_, refl, sym, ap, _∙_}
 use mathlib.Core.Bool.{false}
 use Prim.Native.Nat.{_+_, _-_, _≤_}
 use native.Mathlib.Omega.{arith}
-use Rattle.incidence.specs.Count.{any}
+use Rattle.incidence.specs.Count.{anyUpTo}
 use Rattle.incidence.proofs.Counting.{any-some}
 use Rattle.sizes.specs.Sizes.{familyOf}
-use Rattle.decoding.specs.Decoding.{agreesIn, strays}
+use Rattle.decoding.specs.Decoding.{agreesIn, unexplainedIn}
 use Rattle.decoding.proofs.Picking.{any-fails}
 use borrow.Author.Needs.{needs}
 use Rattle.decoding.proofs.find_unexplained.Statement.{statement}
 use Rattle.decoding.proofs.find_unexplained.Tie as tie
 
 abbrev Inv-loop : tie.InvT-loop
-Inv-loop code n a b marks rows i₀ i = (i ≤ rows) × (any (strays (familyOf code) (agreesIn a b) marks n) i ≡ false)
+Inv-loop code n a b marks rows i₀ i = (i ≤ rows) × (anyUpTo (unexplainedIn (familyOf code) (agreesIn a b) marks n) i ≡ false)
 
 abbrev μ-loop : tie.MeasureT-loop
 μ-loop code n a b marks rows i₀ i = rows - i
@@ -27,8 +27,8 @@ loop-holds c = (omega arith, refl)
 add-i : tie.Need-add-i Inv-loop μ-loop
 add-i c = search needs
 
-is-stray-requires : tie.Need-is-stray-requires Inv-loop μ-loop
-is-stray-requires c κs =
+is-unexplained-requires : tie.Need-is-unexplained-requires Inv-loop μ-loop
+is-unexplained-requires c κs =
     let l = c .before in
     let d = l .before .before .before .before .before in
     (d .pre .0, (omega arith, omega (arith, l .before .rows .ensures, d .pre .1 .0), omega (arith, l .before .rows .ensures, d .pre .1 .1)))
@@ -37,8 +37,8 @@ returns : tie.Need-returns Inv-loop μ-loop
 returns c =
     let l = c .before .before .before in
     let d = l .before .before .before .before .before in
-    sym (any-some (strays (familyOf (d .args .code)) (agreesIn (d .args .a .now) (d .args .b .now)) (d .args .marks .now) (d .args .n)) (familyOf (d .args .code) .rows) (l .loop .i + 1) (omega arith)
-    (omega (arith, l .before .rows .ensures)) (sym (c .before .is-stray .ensures) ∙ c .if1 .taken))
+    sym (any-some (unexplainedIn (familyOf (d .args .code)) (agreesIn (d .args .a .now) (d .args .b .now)) (d .args .marks .now) (d .args .n)) (familyOf (d .args .code) .rows) (l .loop .i + 1) (omega arith)
+    (omega (arith, l .before .rows .ensures)) (sym (c .before .is-unexplained .ensures) ∙ c .if1 .taken))
 
 loop-less : tie.Need-loop-less Inv-loop μ-loop
 loop-less c = search needs
@@ -48,8 +48,8 @@ loop-again c =
     let l = c .before .before .before in
     let d = l .before .before .before .before .before in (
       omega arith,
-      any-fails (strays (familyOf (d .args .code)) (agreesIn (d .args .a .now) (d .args .b .now)) (d .args .marks .now) (d .args .n)) (l .loop .i) (l .loop .inv .1)
-          (sym (c .before .is-stray .ensures) ∙ c .if1 .left),
+      any-fails (unexplainedIn (familyOf (d .args .code)) (agreesIn (d .args .a .now) (d .args .b .now)) (d .args .marks .now) (d .args .n)) (l .loop .i) (l .loop .inv .1)
+          (sym (c .before .is-unexplained .ensures) ∙ c .if1 .left),
     )
 
 returns-2 : tie.Need-returns-2 Inv-loop μ-loop
@@ -57,7 +57,7 @@ returns-2 c =
     let l = c .before in
     let d = l .before .before .before .before .before in
     let e : l .loop .i ≡ familyOf (d .args .code) .rows = omega (arith, l .before .rows .ensures) in
-    sym (l .loop .inv .1) ∙ ap (any (strays (familyOf (d .args .code)) (agreesIn (d .args .a .now) (d .args .b .now)) (d .args .marks .now) (d .args .n))) e
+    sym (l .loop .inv .1) ∙ ap (anyUpTo (unexplainedIn (familyOf (d .args .code)) (agreesIn (d .args .a .now) (d .args .b .now)) (d .args .marks .now) (d .args .n))) e
 
 pub find-unexplained-spec : {M : Type 1} → statement M
 find-unexplained-spec =
@@ -68,7 +68,7 @@ find-unexplained-spec =
     rows-requires
     loop-holds
     add-i
-    is-stray-requires
+    is-unexplained-requires
     returns
     loop-less
     loop-again

@@ -3,7 +3,7 @@ use mathlib.Core.Path.{sym, ap, _∙_}
 use Prim.Native.Nat.{ℕ, _+_, _*_, _%_}
 use native.Mathlib.Omega.{arith}
 use Rattle.firmware.specs.Packed.{numberIn}
-use Rattle.firmware.proofs.Packing.{number-back, report-done, report-refused, number-small}
+use Rattle.firmware.proofs.Packing.{number-back, report-done, report-refused, ordinal-small}
 use borrow.Author.Needs.{needs}
 use Rattle.firmware.proofs.pack_report.Statement.{statement}
 use Rattle.firmware.proofs.pack_report.Tie as tie
@@ -19,29 +19,29 @@ returns c =
       λ z. sym (number-back (d .args .r .refused) (omega (arith, c .before .before .struct-known .given))) ∙ ap numberIn (sym (c .pack .ensures)) ∙ z,
     )
 
-number-requires : tie.Need-number-requires
-number-requires c κs = search needs
+ordinal-requires : tie.Need-ordinal-requires
+ordinal-requires c κs = search needs
 
 mul-result : tie.Need-mul-result
-mul-result c = omega (arith, c .number .ensures, number-small (c .before .before .before .before .args .r .answer))
+mul-result c = omega (arith, c .ordinal .ensures, ordinal-small (c .before .before .before .before .args .r .answer))
 
 mul-result-2 : tie.Need-mul-result-2
 mul-result-2 c = search needs
 
 add-result : tie.Need-add-result
-add-result c = omega (arith, c .number .ensures, number-small (c .before .before .before .before .args .r .answer))
+add-result c = omega (arith, c .ordinal .ensures, ordinal-small (c .before .before .before .before .args .r .answer))
 
 mul-result-3 : tie.Need-mul-result-3
 mul-result-3 c = search needs
 
 add-result-2 : tie.Need-add-result-2
-add-result-2 c = omega (arith, c .number .ensures, number-small (c .before .before .before .before .args .r .answer))
+add-result-2 c = omega (arith, c .ordinal .ensures, ordinal-small (c .before .before .before .before .args .r .answer))
 
 returns-2 : tie.Need-returns-2
 returns-2 c =
     let d = c .before .before .before .before in
     let r = d .args .r in
-    let e = c .number .ensures in (
+    let e = c .ordinal .ensures in (
       ap (λ (x : ℕ). 256 * x + 65536 * (r .named % 65536) + 4294967296 * (r .rows % 65536)) e ∙ report-done (r .refused) (r .answer) (r .named) (r .rows) (c .before .if1 .left),
       λ z. c .before .if1 .left,
     )
@@ -52,7 +52,7 @@ pack-report-spec =
     (tie.spec
     pack-requires
     returns
-    number-requires
+    ordinal-requires
     mul-result
     mul-result-2
     add-result

@@ -2,7 +2,7 @@
 use mathlib.Core.Path.{sym, ap, _∙_}
 use mathlib.Core.Bool.{Bool}
 use Prim.Native.Nat.{_*_}
-use Rattle.incidence.specs.Count.{bit}
+use Rattle.incidence.specs.Count.{indicator}
 use Rattle.firmware.proofs.Packing.{yes-done, yes-refused}
 use borrow.Author.Needs.{needs}
 use Rattle.firmware.proofs.pack_verify.Statement.{statement}
@@ -15,10 +15,10 @@ returns : tie.Need-returns
 returns c = c .pack .ensures ∙ yes-refused _ _ (c .before .if1 .taken)
 
 returns-2 : tie.Need-returns-2
-returns-2 c = ap (λ (t : Bool). 256 * bit t) (sym (c .if2 .taken)) ∙ yes-done _ _ (c .before .if1 .left)
+returns-2 c = ap (λ (t : Bool). 256 * indicator t) (sym (c .if2 .taken)) ∙ yes-done _ _ (c .before .if1 .left)
 
 returns-3 : tie.Need-returns-3
-returns-3 c = ap (λ (t : Bool). 256 * bit t) (sym (c .if2 .left)) ∙ yes-done _ _ (c .before .if1 .left)
+returns-3 c = ap (λ (t : Bool). 256 * indicator t) (sym (c .if2 .left)) ∙ yes-done _ _ (c .before .if1 .left)
 
 pub pack-verify-spec : {M : Type 1} → statement M
 pack-verify-spec = tie.close (tie.spec pack-requires returns returns-2 returns-3)

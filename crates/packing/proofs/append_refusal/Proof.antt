@@ -6,7 +6,7 @@ use native.Mathlib.Omega.{arith}
 use lib.Dec.{leb, ltb}
 use lib.ListN.{length, take}
 use Rattle.files.specs.Refusals.{unless, first}
-use Rattle.files.specs.Message.{count, refuse3}
+use Rattle.files.specs.Message.{itemCount, refuse3}
 use Rattle.files.proofs.Passing.{stop, skip}
 use Rattle.packing.specs.Packing.{appendRefusal}
 use Rattle.packing.proofs.Refusing.{room-tells}
@@ -67,7 +67,7 @@ returns-3 c =
     let size = n + 2 + length (d .item .now) in
     let z : n - 0 ≡ n = omega arith in
     c .check-file .ensures
-    ∙ ap (λ (k : ℕ). first (refuse3 (take k f) ∷ unless (leb size 65536) 3 0 ∷ unless (ltb (count (take k f)) 65535) 3 0 ∷ [])) z
+    ∙ ap (λ (k : ℕ). first (refuse3 (take k f) ∷ unless (leb size 65536) 3 0 ∷ unless (ltb (itemCount (take k f)) 65535) 3 0 ∷ [])) z
     ∙ sym (skip _ _ _ (r .check-room .ensures) (c .before .before .if2 .left))
     ∙ sym (skip _ _ _ (r .before .before .before .check-item .ensures) (r .before .if1 .left))
 

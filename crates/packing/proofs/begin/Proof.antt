@@ -6,7 +6,7 @@ use lib.ListN.{length, drop}
 use Rattle.cipher.specs.Number.{bigEndian}
 use Rattle.files.specs.Message.{prefix}
 use Rattle.files.proofs.Passing.{given, kept}
-use Rattle.packing.specs.Packing.{fields, messageOf, beginRefusal, beginWrites}
+use Rattle.packing.specs.Packing.{fields, messageOf, beginFileRefusal, beginFileWrites}
 use Rattle.packing.proofs.Refusing.{room-tells}
 use borrow.Author.Needs.{needs}
 use Rattle.packing.proofs.begin.Statement.{statement}
@@ -16,12 +16,12 @@ check-room-requires : tie.Need-check-room-requires
 check-room-requires c κs = search needs
 
 returns : tie.Need-returns
-unfolding beginRefusal beginWrites
+unfolding beginFileRefusal beginFileWrites
 returns c =
     let q = c .before .before in
     let o = q .before .before .args .out .now in
     let e = q .check-room .ensures in
-    (e, kept _ (beginRefusal (length o)) e (messageOf [] ++ drop 7 o) o (c .if1 .taken))
+    (e, kept _ (beginFileRefusal (length o)) e (messageOf [] ++ drop 7 o) o (c .if1 .taken))
 
 slice-aggregate-put : tie.Need-slice-aggregate-put
 slice-aggregate-put c = search needs
@@ -37,14 +37,14 @@ same-length : tie.Need-same-length
 same-length c = search needs
 
 returns-2 : tie.Need-returns-2
-unfolding beginRefusal beginWrites messageOf fields prefix bigEndian
+unfolding beginFileRefusal beginFileWrites messageOf fields prefix bigEndian
 returns-2 c =
     let p = c .before .before in
     let f = p .before .before .before in
     let q = f .before .before in
     let o = q .before .before .args .out .now in
     let e = q .check-room .ensures in
-    (e, p .put .ensures ∙ given _ (beginRefusal (length o)) e (messageOf [] ++ drop 7 o) o (f .if1 .left))
+    (e, p .put .ensures ∙ given _ (beginFileRefusal (length o)) e (messageOf [] ++ drop 7 o) o (f .if1 .left))
 
 pub begin-spec : {M : Type 1} → statement M
 begin-spec =

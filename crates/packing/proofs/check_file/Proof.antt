@@ -5,7 +5,7 @@ use native.Mathlib.Omega.{arith}
 use lib.Dec.{ltb}
 use borrow.Author.Tests.{le-leb, lt-leb}
 use Rattle.files.specs.Refusals.{refusal, none, unless}
-use Rattle.files.specs.Message.{count}
+use Rattle.files.specs.Message.{itemCount}
 use Rattle.files.proofs.Passing.{unless-true, unless-false, stop, skip}
 use Rattle.packing.proofs.Refusing.{last, header-tells}
 use borrow.Author.Needs.{needs}
@@ -34,13 +34,13 @@ unless-requires : tie.Need-unless-requires
 unless-requires c κs = search needs
 
 returns-3 : tie.Need-returns-3
-unfolding count
+unfolding itemCount
 returns-3 c =
     let n = c .before in
     let h = n .before .before .before .before in
     c .unless .ensures
     ∙ ap (λ (k : ℕ). unless (ltb k 65535) 3 0) (n .number16 .ensures .0)
-    ∙ last (ltb (count (h .before .before .args .s .now)) 65535)
+    ∙ last (ltb (itemCount (h .before .before .args .s .now)) 65535)
     ∙ sym (skip none _ _ (sym (unless-true _ 3 0 (le-leb (h .before .before .args .size) 65536 (n .before .if2 .left)))) refl)
     ∙ sym (skip _ _ _ (h .check-header .ensures) (n .before .before .if1 .left))
 

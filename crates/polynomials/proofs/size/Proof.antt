@@ -3,20 +3,20 @@ use mathlib.Core.Path.{_≡_, _∙_}
 use mathlib.Core.Logic.{⊎-elim}
 use Prim.Native.Nat.{_-_, _≤_}
 use lib.ListN.{length, take}
-use Rattle.polynomials.specs.Polynomial.{size}
+use Rattle.polynomials.specs.Polynomial.{polySize}
 use Rattle.polynomials.proofs.Sizes.{size-one, size-other, size-whole}
 use borrow.Author.Needs.{needs}
 use Rattle.polynomials.proofs.size.Statement.{statement}
 use Rattle.polynomials.proofs.size.Tie as tie
 
 abbrev Inv-loop : tie.InvT-loop
-Inv-loop p n₀ i₀ n i = (i ≤ length p) × (n ≡ size (take i p))
+Inv-loop p n₀ i₀ n i = (i ≤ length p) × (n ≡ polySize (take i p))
 
 abbrev μ-loop : tie.MeasureT-loop
 μ-loop p n₀ i₀ n i = length p - i
 
 loop-holds : tie.Need-loop-holds Inv-loop μ-loop
-unfolding size
+unfolding polySize
 loop-holds c = search needs
 
 shared-slice-read-if1 : tie.Need-shared-slice-read-if1 Inv-loop μ-loop

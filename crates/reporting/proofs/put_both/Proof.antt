@@ -6,7 +6,7 @@ use native.Mathlib.Omega.{arith}
 use lib.ListN.{length}
 use denote.Ref.{now}
 use Rattle.printing.specs.Text.{over}
-use Rattle.files.specs.Message.{count}
+use Rattle.files.specs.Message.{itemCount}
 use Rattle.sizes.proofs.Laws.{tags-few}
 use Rattle.printing.proofs.Putting.{put-as, put-front}
 use Rattle.scheme.proofs.Checking.{taggable}
@@ -77,7 +77,7 @@ same-length-2 : tie.Need-same-length-2
 same-length-2 c = search needs
 
 returns-2 : tie.Need-returns-2
-unfolding count
+unfolding itemCount
 returns-2 c =
     let d = c .before .before .before .before .before .before .before .before .before .before .before .before .before .before .before .before .before in
     let a = d .args in

@@ -7,7 +7,7 @@ use native.Mathlib.Omega.{arith}
 use lib.ListN.{length}
 use denote.Ref.{now}
 use Rattle.printing.proofs.Putting.{put-as, put-front}
-use Rattle.files.specs.Message.{count}
+use Rattle.files.specs.Message.{itemCount}
 use Rattle.scheme.proofs.Checking.{reportable}
 use Rattle.reporting.proofs.Texts.{report-refused, report-done}
 use borrow.Author.Needs.{needs}
@@ -46,7 +46,7 @@ slice-aggregate-put-report : tie.Need-slice-aggregate-put-report
 slice-aggregate-put-report c = search needs
 
 put-report-requires : tie.Need-put-report-requires
-unfolding count
+unfolding itemCount
 put-report-requires c κs =
     let d = c .before .before .before .before .before .before .before .before .before .before .before .before .before in
     let a = d .args in
@@ -61,7 +61,7 @@ same-length-2 : tie.Need-same-length-2
 same-length-2 c = search needs
 
 returns-2 : tie.Need-returns-2
-unfolding count
+unfolding itemCount
 returns-2 c =
     let d = c .before .before .before .before .before .before .before .before .before .before .before .before .before .before .before .before in
     let a = d .args in

@@ -5,7 +5,7 @@ use native.Mathlib.Omega.{arith}
 use lib.ListN.{length}
 use Rattle.sizes.specs.Sizes.{known, familyOf}
 use Rattle.sizes.proofs.Laws.{rows-few, tags-few}
-use Rattle.files.specs.Message.{count}
+use Rattle.files.specs.Message.{itemCount}
 use Rattle.files.specs.TagFile.{codeOf}
 use Rattle.tagging.proofs.Summing.{zero-sums}
 use Rattle.scheme.proofs.Checking.{reportable, file-code, file-count}
@@ -81,7 +81,7 @@ slice-aggregate-decode-2 : tie.Need-slice-aggregate-decode-2
 slice-aggregate-decode-2 c = search needs
 
 decode-requires : tie.Need-decode-requires
-unfolding count
+unfolding itemCount
 decode-requires c κs =
     let d = c .before .before .before .before .before .before .before .before .before .before .before .before .before .before .before .before .before .before .before .before in
     let p = reportable (d .args .keys .now) (d .args .s .now) (d .args .f .now) (length (d .args .marks .now)) _ refl (d .pre) in
@@ -98,7 +98,7 @@ same-length : tie.Need-same-length
 same-length c = search needs
 
 returns : tie.Need-returns
-unfolding count
+unfolding itemCount
 returns c =
     let d = c .before .before .before .before .before .before .before .before .before .before .before .before .before .before .before .before .before .before .before .before .before .before .before in
     let p = reportable (d .args .keys .now) (d .args .s .now) (d .args .f .now) (length (d .args .marks .now)) _ refl (d .pre) in

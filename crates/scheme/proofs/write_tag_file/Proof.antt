@@ -5,7 +5,7 @@ use native.Mathlib.Omega.{arith}
 use lib.ListN.{length}
 use Rattle.sizes.specs.Sizes.{familyOf}
 use Rattle.sizes.proofs.Laws.{tags-few}
-use Rattle.files.specs.Message.{count, item}
+use Rattle.files.specs.Message.{itemCount, item}
 use Rattle.tagging.proofs.Summing.{zero-sums}
 use Rattle.scheme.proofs.Checking.{taggable}
 use Rattle.scheme.proofs.Filing.{tag-file-made}
@@ -39,7 +39,7 @@ slice-aggregate-write-file : tie.Need-slice-aggregate-write-file
 slice-aggregate-write-file c = search needs
 
 write-file-requires : tie.Need-write-file-requires
-unfolding count
+unfolding itemCount
 write-file-requires c κs =
     let d = c .before .before .before .before .before .before .before .before .before .before in
     let t = taggable (d .args .keys .now) (d .args .code) (d .args .s .now) (length (d .args .out .now)) _ refl (d .pre) in
@@ -50,7 +50,7 @@ same-length : tie.Need-same-length
 same-length c = search needs
 
 returns : tie.Need-returns
-unfolding count
+unfolding itemCount
 returns c =
     let w = c .before .before in
     let s = w .before .before .before .before in

@@ -8,7 +8,7 @@ use Rattle.cipher.specs.Aes.{keyExpansion, encipher}
 use Rattle.cipher.specs.Cmac.{subkey1, subkey2}
 use Rattle.incidence.specs.Sum.{rowSum}
 use Rattle.sizes.specs.Sizes.{familyOf}
-use Rattle.files.specs.Message.{behind, item, count}
+use Rattle.files.specs.Message.{behind, item, itemCount}
 use Rattle.files.proofs.Messages.{behind-more}
 use Rattle.keyed.specs.Keyed.{itemHash}
 use Rattle.sums.specs.Adding.{Holds}
@@ -49,7 +49,7 @@ loop-holds c =
     )
 
 add-start : tie.Need-add-start Inv-loop μ-loop
-unfolding count
+unfolding itemCount
 add-start c =
     let l = c .before .before .before in
     let d = l .before .before .before .before .before .before .before in
@@ -57,7 +57,7 @@ add-start c =
     omega (arith, f .head, d .pre .0 .1)
 
 next-requires : tie.Need-next-requires Inv-loop μ-loop
-unfolding count
+unfolding itemCount
 next-requires c κs =
     let l = c .before .before .before in
     let d = l .before .before .before .before .before .before .before in
@@ -71,7 +71,7 @@ part-item-hash-start : tie.Need-part-item-hash-start Inv-loop μ-loop
 part-item-hash-start c = omega (arith, c .next .ensures .0)
 
 part-item-hash-end : tie.Need-part-item-hash-end Inv-loop μ-loop
-unfolding count
+unfolding itemCount
 part-item-hash-end c =
     let l = c .before .before .before .before in
     let d = l .before .before .before .before .before .before .before in
@@ -110,7 +110,7 @@ same-length : tie.Need-same-length Inv-loop μ-loop
 same-length c = search needs
 
 returns : tie.Need-returns Inv-loop μ-loop
-unfolding hashes count
+unfolding hashes itemCount
 returns c =
     let l = c .before .before in
     let d = l .before .before .before .before .before .before .before in

@@ -8,7 +8,7 @@ use Rattle.cipher.specs.Aes.{keyExpansion, encipher}
 use Rattle.cipher.specs.Cmac.{subkey1, subkey2}
 use Rattle.incidence.specs.Sum.{rowSum}
 use Rattle.sizes.specs.Sizes.{familyOf}
-use Rattle.files.specs.Message.{behind, item, count}
+use Rattle.files.specs.Message.{behind, item, itemCount}
 use Rattle.files.proofs.Messages.{behind-more}
 use Rattle.keyed.specs.Keyed.{itemHash}
 use Rattle.sums.specs.Adding.{Holds}
@@ -49,7 +49,7 @@ loop-holds c =
     )
 
 add-start : tie.Need-add-start Inv-loop μ-loop
-unfolding count
+unfolding itemCount
 add-start c =
     let l = c .before .before .before in
     let d = l .before .before .before .before .before .before .before in
@@ -57,7 +57,7 @@ add-start c =
     omega (arith, f .head, d .pre .1 .0 .1)
 
 next-requires : tie.Need-next-requires Inv-loop μ-loop
-unfolding count
+unfolding itemCount
 next-requires c κs =
     let l = c .before .before .before in
     let d = l .before .before .before .before .before .before .before in
@@ -71,7 +71,7 @@ part-add-item-start : tie.Need-part-add-item-start Inv-loop μ-loop
 part-add-item-start c = omega (arith, c .before .next .ensures .0)
 
 part-add-item-end : tie.Need-part-add-item-end Inv-loop μ-loop
-unfolding count
+unfolding itemCount
 part-add-item-end c =
     let l = c .before .before .before .before .before in
     let d = l .before .before .before .before .before .before .before in
@@ -107,7 +107,7 @@ same-length : tie.Need-same-length Inv-loop μ-loop
 same-length c = search needs
 
 returns : tie.Need-returns Inv-loop μ-loop
-unfolding hashes tagSum count
+unfolding hashes tagSum itemCount
 returns c =
     let l = c .before .before in
     let d = l .before .before .before .before .before .before .before in

@@ -3,7 +3,7 @@ use mathlib.Core.Path.{_≡_, sym, ap, _∙_}
 use Prim.Native.Nat.{_-_, _≤_}
 use native.Mathlib.Omega.{arith}
 use lib.ListN.{length}
-use Rattle.files.specs.Message.{number16, count, behind, refuseItems}
+use Rattle.files.specs.Message.{number16, itemCount, behind, refuseItems}
 use Rattle.files.proofs.Messages.{fits-so, behind-more, items-more, items-stop, items-whole, items-over}
 use Rattle.files.specs.Refusals.{none, first}
 use borrow.Author.Needs.{needs}
@@ -59,7 +59,7 @@ add-t6 : tie.Need-add-t6 Inv-loop μ-loop
 add-t6 c = search needs
 
 returns : tie.Need-returns Inv-loop μ-loop
-unfolding count
+unfolding itemCount
 returns c =
     let l = c .before .before .before .before .before in
     let s = l .before .before .before .before .args .s .now in
@@ -67,7 +67,7 @@ returns c =
     (l .before .before .number16 .ensures .0) (omega arith)
 
 returns-2 : tie.Need-returns-2 Inv-loop μ-loop
-unfolding count
+unfolding itemCount
 returns-2 c =
     let l = c .before .before .before .before in
     let s = l .before .before .before .before .args .s .now in
@@ -77,7 +77,7 @@ add-t7 : tie.Need-add-t7 Inv-loop μ-loop
 add-t7 c = search needs
 
 returns-3 : tie.Need-returns-3 Inv-loop μ-loop
-unfolding count
+unfolding itemCount
 returns-3 c =
     let l = c .before .before .before .before in
     let s = l .before .before .before .before .args .s .now in

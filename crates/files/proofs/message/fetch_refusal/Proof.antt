@@ -1,6 +1,6 @@
 -- The first of 3, 5 and 8 that applies (Messages).
 use native.Mathlib.Omega.{arith}
-use Rattle.files.specs.Message.{number16, count}
+use Rattle.files.specs.Message.{number16, itemCount}
 use Rattle.files.proofs.Messages.{header-fine, fetch-header, fetch-items, fetch-zero, fetch-above, fetch-none}
 use borrow.Author.Needs.{needs}
 use Rattle.files.proofs.message.fetch_refusal.Statement.{statement}
@@ -40,7 +40,7 @@ number16-requires c κs =
     omega (arith, f .0)
 
 returns-4 : tie.Need-returns-4
-unfolding count
+unfolding itemCount
 returns-4 c =
     let i = c .before .before .before in
     let h = i .before .before .before in
@@ -49,7 +49,7 @@ returns-4 c =
     _ (c .before .number16 .ensures .0) (c .if4 .taken)
 
 returns-5 : tie.Need-returns-5
-unfolding count
+unfolding itemCount
 returns-5 c =
     let i = c .before .before .before in
     let h = i .before .before .before in

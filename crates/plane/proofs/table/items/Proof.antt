@@ -1,5 +1,5 @@
 -- The column is the definition's.
-use Rattle.plane.specs.Table.{itemCounts, itemsOf}
+use Rattle.plane.specs.Table.{itemCounts, planeItems}
 use borrow.Author.Needs.{needs}
 use Rattle.plane.proofs.table.items.Statement.{statement}
 use Rattle.plane.proofs.table.items.Tie as tie
@@ -8,7 +8,7 @@ column-requires : tie.Need-column-requires
 column-requires c κs = search needs
 
 returns : tie.Need-returns
-unfolding itemsOf itemCounts
+unfolding planeItems itemCounts
 returns c = c .column .ensures
 
 pub items-spec : {M : Type 1} → statement M

@@ -1,5 +1,5 @@
 -- The column is the definition's.
-use Rattle.plane.specs.Table.{limits, limitOf}
+use Rattle.plane.specs.Table.{limits, planeLimit}
 use borrow.Author.Needs.{needs}
 use Rattle.plane.proofs.table.limit.Statement.{statement}
 use Rattle.plane.proofs.table.limit.Tie as tie
@@ -8,7 +8,7 @@ column-requires : tie.Need-column-requires
 column-requires c κs = search needs
 
 returns : tie.Need-returns
-unfolding limitOf limits
+unfolding planeLimit limits
 returns c = c .column .ensures
 
 pub limit-spec : {M : Type 1} → statement M

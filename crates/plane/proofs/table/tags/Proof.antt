@@ -1,5 +1,5 @@
 -- The column is the definition's.
-use Rattle.plane.specs.Table.{tagCounts, tagsOf}
+use Rattle.plane.specs.Table.{tagCounts, planeTags}
 use borrow.Author.Needs.{needs}
 use Rattle.plane.proofs.table.tags.Statement.{statement}
 use Rattle.plane.proofs.table.tags.Tie as tie
@@ -8,7 +8,7 @@ column-requires : tie.Need-column-requires
 column-requires c κs = search needs
 
 returns : tie.Need-returns
-unfolding tagsOf tagCounts
+unfolding planeTags tagCounts
 returns c = c .column .ensures
 
 pub tags-spec : {M : Type 1} → statement M

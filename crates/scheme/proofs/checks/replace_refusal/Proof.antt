@@ -4,7 +4,7 @@ use native.Mathlib.Omega.{arith}
 use Prim.Native.Nat.{ℕ}
 use Rattle.files.specs.Message.{refuse8}
 use Rattle.files.specs.TagFile.{countOf}
-use Rattle.files.specs.Handed.{refuse7}
+use Rattle.files.specs.Arguments.{refuse7}
 use Rattle.scheme.specs.Calls.{replaceRefusal}
 use Rattle.files.proofs.Passing.{stop, skip}
 use Rattle.scheme.proofs.Checking.{last, pair, plain7, keys-long, fine-file}

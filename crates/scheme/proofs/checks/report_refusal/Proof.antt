@@ -2,8 +2,8 @@
 use mathlib.Core.Path.{sym, ap, _∙_}
 use native.Mathlib.Omega.{arith}
 use Prim.Native.Nat.{ℕ}
-use Rattle.files.specs.Message.{count}
-use Rattle.files.specs.Handed.{refuse7}
+use Rattle.files.specs.Message.{itemCount}
+use Rattle.files.specs.Arguments.{refuse7}
 use Rattle.scheme.specs.Calls.{reportRefusal}
 use Rattle.files.proofs.Passing.{stop, skip}
 use Rattle.scheme.proofs.Checking.{last, plain7, comparable}
@@ -27,7 +27,7 @@ check-room-requires : tie.Need-check-room-requires
 check-room-requires c κs = search needs
 
 returns-2 : tie.Need-returns-2
-unfolding reportRefusal count
+unfolding reportRefusal itemCount
 returns-2 c = last _ _ (plain7 _ _) (c .check-room .ensures ∙ ap (λ (n : ℕ). refuse7 n (c .before .before .before .before .before .before .before .before .args .room)) (c .before .number16 .ensures .0))
     ∙ sym (skip _ _ _ (c .before .before .before .before .verify-refusal .ensures) (c .before .before .if1 .left))
 

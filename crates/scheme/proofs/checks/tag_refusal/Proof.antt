@@ -3,9 +3,9 @@ use mathlib.Core.Path.{sym, ap, _∙_}
 use native.Mathlib.Omega.{arith}
 use Prim.Native.Nat.{ℕ, _+_, _*_}
 use Rattle.sizes.proofs.Laws.{tags-few}
-use Rattle.files.specs.Message.{count}
+use Rattle.files.specs.Message.{itemCount}
 use Rattle.files.specs.TagFile.{fileSize}
-use Rattle.files.specs.Handed.{refuse4, refuse7}
+use Rattle.files.specs.Arguments.{refuse4, refuse7}
 use Rattle.files.proofs.Messages.{header-fine}
 use Rattle.scheme.specs.Calls.{tagRefusal}
 use Rattle.files.proofs.Passing.{stop, skip}
@@ -47,7 +47,7 @@ check-count-requires : tie.Need-check-count-requires
 check-count-requires c κs = search needs
 
 returns-4 : tie.Need-returns-4
-unfolding tagRefusal count
+unfolding tagRefusal itemCount
 returns-4 c = stop _ _ _ (c .before .before .check-count .ensures ∙ ap (refuse4 _) (c .before .before .before .number16 .ensures .0)) (c .if4 .taken)
     ∙ sym (skip _ _ _ (c .before .before .before .before .before .before .before .before .before .before .before .before .check-keys .ensures) (c .before .before .before .before .before .before .before .before .before .before .if1 .left)
     ∙ skip _ _ _ (c .before .before .before .before .before .before .before .before .before .check-code .ensures) (c .before .before .before .before .before .before .before .if2 .left)
@@ -57,7 +57,7 @@ check-items-requires : tie.Need-check-items-requires
 check-items-requires c κs = header-fine (c .before .before .before .before .before .before .before .before .before .before .before .before .before .before .before .args .s .now) 0 _ (c .before .before .before .before .before .before .check-header .ensures) (c .before .before .before .before .if3 .left)
 
 returns-5 : tie.Need-returns-5
-unfolding tagRefusal count
+unfolding tagRefusal itemCount
 returns-5 c = stop _ _ _ (c .before .before .check-items .ensures) (c .if5 .taken)
     ∙ sym (skip _ _ _ (c .before .before .before .before .before .before .before .before .before .before .before .before .before .before .before .check-keys .ensures) (c .before .before .before .before .before .before .before .before .before .before .before .before .before .if1 .left)
     ∙ skip _ _ _ (c .before .before .before .before .before .before .before .before .before .before .before .before .check-code .ensures) (c .before .before .before .before .before .before .before .before .before .before .if2 .left)
@@ -77,7 +77,7 @@ check-room-requires : tie.Need-check-room-requires
 check-room-requires c κs = search needs
 
 returns-6 : tie.Need-returns-6
-unfolding tagRefusal count fileSize
+unfolding tagRefusal itemCount fileSize
 returns-6 c = last _ _ (plain7 _ _) (c .check-room .ensures ∙ ap (λ (t : ℕ). refuse7 (24 + 16 * t) (c .before .before .before .before .before .before .before .before .before .before .before .before .before .before .before .before .before .before .before .before .args .room)) (c .before .tags .ensures))
     ∙ sym (skip _ _ _ (c .before .before .before .before .before .before .before .before .before .before .before .before .before .before .before .before .before .check-keys .ensures) (c .before .before .before .before .before .before .before .before .before .before .before .before .before .before .before .if1 .left)
     ∙ skip _ _ _ (c .before .before .before .before .before .before .before .before .before .before .before .before .before .before .check-code .ensures) (c .before .before .before .before .before .before .before .before .before .before .before .before .if2 .left)

@@ -4,7 +4,7 @@ use Prim.Native.Nat.{ℕ, _+_, _*_}
 use native.Mathlib.Omega.{arith}
 use Rattle.sizes.proofs.Laws.{tags-few}
 use Rattle.files.specs.TagFile.{fileSize}
-use Rattle.files.specs.Handed.{refuse7}
+use Rattle.files.specs.Arguments.{refuse7}
 use Rattle.session.proofs.Stepping.{first-same}
 use borrow.Author.Needs.{needs}
 use Rattle.session.proofs.Session.close_refusal.Statement.{statement}

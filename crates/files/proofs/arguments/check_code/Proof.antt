@@ -2,10 +2,10 @@
 use mathlib.Core.Path.{ap, _∙_}
 use mathlib.Core.Bool.{Bool}
 use Rattle.files.specs.Refusals.{unless}
-use Rattle.files.specs.Handed.{refuse2}
+use Rattle.files.specs.Arguments.{refuse2}
 use borrow.Author.Needs.{needs}
-use Rattle.files.proofs.handed.check_code.Statement.{statement}
-use Rattle.files.proofs.handed.check_code.Tie as tie
+use Rattle.files.proofs.arguments.check_code.Statement.{statement}
+use Rattle.files.proofs.arguments.check_code.Tie as tie
 
 known-requires : tie.Need-known-requires
 known-requires c κs = search needs

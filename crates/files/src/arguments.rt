@@ -5,7 +5,7 @@ ghost use lib.ListN.{length};
 ghost use Rattle.incidence.specs.Count.{inside};
 ghost use Rattle.files.specs.Refusals.{unless};
 ghost use Rattle.files.specs.Message.{refuse8};
-ghost use Rattle.files.specs.Handed.{refuse1, refuse2, refuse4, refuse7, refuse9};
+ghost use Rattle.files.specs.Arguments.{refuse1, refuse2, refuse4, refuse7, refuse9};
 
 // No refusal where the test holds, else the one with this number and place.
 pub fn unless(ok: bool, number: u8, place: usize) -> Refusal

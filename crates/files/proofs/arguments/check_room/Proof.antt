@@ -1,8 +1,8 @@
 -- As `unless` has it.
-use Rattle.files.specs.Handed.{refuse7}
+use Rattle.files.specs.Arguments.{refuse7}
 use borrow.Author.Needs.{needs}
-use Rattle.files.proofs.handed.check_room.Statement.{statement}
-use Rattle.files.proofs.handed.check_room.Tie as tie
+use Rattle.files.proofs.arguments.check_room.Statement.{statement}
+use Rattle.files.proofs.arguments.check_room.Tie as tie
 
 unless-requires : tie.Need-unless-requires
 unless-requires c κs = search needs

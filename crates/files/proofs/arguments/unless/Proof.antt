@@ -1,8 +1,8 @@
 -- By the test.
 use mathlib.Core.Path.{sym}
 use Rattle.files.proofs.Passing.{unless-true, unless-false}
-use Rattle.files.proofs.handed.unless.Statement.{statement}
-use Rattle.files.proofs.handed.unless.Tie as tie
+use Rattle.files.proofs.arguments.unless.Statement.{statement}
+use Rattle.files.proofs.arguments.unless.Tie as tie
 
 returns : tie.Need-returns
 returns c = sym (unless-true _ _ _ (c .if1 .taken))

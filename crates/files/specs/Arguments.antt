@@ -1,5 +1,5 @@
--- What is refused of all else that a caller hands over (document 01, 'From the input'): keys, size code, count, item number, an item, and
--- room in a lent buffer. 3, 5, 6 and 20 are in Message and TagFile. Assumes nothing.
+-- What is refused of all else that a caller hands over (document 01, 'From the input'): keys, size code, count, an item, and
+-- room in a lent buffer. 3, 5, 6, 8 and 20 are in Message and TagFile. Assumes nothing.
 use Prim.Native.Nat.{ℕ}
 use lib.Dec.{eqb, leb}
 use Rattle.incidence.specs.Count.{inside}

@@ -1,7 +1,7 @@
 -- By its two tests.
 use borrow.Author.Tests.{le-leb, lt-leb}
-use Rattle.files.proofs.handed.inside.Statement.{statement}
-use Rattle.files.proofs.handed.inside.Tie as tie
+use Rattle.files.proofs.arguments.inside.Statement.{statement}
+use Rattle.files.proofs.arguments.inside.Tie as tie
 
 returns : tie.Need-returns
 returns c = rw (le-leb _ _ (c .if1 .taken))

@@ -4,8 +4,8 @@ use mathlib.Core.Bool.{Bool}
 use Rattle.files.specs.Refusals.{unless}
 use Rattle.files.specs.Message.{refuse8}
 use borrow.Author.Needs.{needs}
-use Rattle.files.proofs.handed.check_number.Statement.{statement}
-use Rattle.files.proofs.handed.check_number.Tie as tie
+use Rattle.files.proofs.arguments.check_number.Statement.{statement}
+use Rattle.files.proofs.arguments.check_number.Tie as tie
 
 inside-requires : tie.Need-inside-requires
 inside-requires c κs = search needs

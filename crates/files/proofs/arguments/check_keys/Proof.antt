@@ -1,8 +1,8 @@
 -- As `unless` has it.
-use Rattle.files.specs.Handed.{refuse1}
+use Rattle.files.specs.Arguments.{refuse1}
 use borrow.Author.Needs.{needs}
-use Rattle.files.proofs.handed.check_keys.Statement.{statement}
-use Rattle.files.proofs.handed.check_keys.Tie as tie
+use Rattle.files.proofs.arguments.check_keys.Statement.{statement}
+use Rattle.files.proofs.arguments.check_keys.Tie as tie
 
 unless-requires : tie.Need-unless-requires
 unless-requires c κs = search needs

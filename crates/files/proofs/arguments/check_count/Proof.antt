@@ -4,10 +4,10 @@ use mathlib.Core.Bool.{Bool}
 use Prim.Native.Nat.{ℕ}
 use Rattle.files.specs.Refusals.{unless}
 use Rattle.incidence.specs.Count.{inside}
-use Rattle.files.specs.Handed.{refuse4}
+use Rattle.files.specs.Arguments.{refuse4}
 use borrow.Author.Needs.{needs}
-use Rattle.files.proofs.handed.check_count.Statement.{statement}
-use Rattle.files.proofs.handed.check_count.Tie as tie
+use Rattle.files.proofs.arguments.check_count.Statement.{statement}
+use Rattle.files.proofs.arguments.check_count.Tie as tie
 
 items-requires : tie.Need-items-requires
 items-requires c κs = search needs

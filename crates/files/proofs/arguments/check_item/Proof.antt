@@ -1,8 +1,8 @@
 -- As `unless` has it.
-use Rattle.files.specs.Handed.{refuse9}
+use Rattle.files.specs.Arguments.{refuse9}
 use borrow.Author.Needs.{needs}
-use Rattle.files.proofs.handed.check_item.Statement.{statement}
-use Rattle.files.proofs.handed.check_item.Tie as tie
+use Rattle.files.proofs.arguments.check_item.Statement.{statement}
+use Rattle.files.proofs.arguments.check_item.Tie as tie
 
 unless-requires : tie.Need-unless-requires
 unless-requires c κs = search needs
