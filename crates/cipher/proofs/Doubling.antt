@@ -9,7 +9,7 @@ use lib.Pow.{pow-pos}
 use native.Mathlib.Omega.{arith}
 use lib.ListN.{length, getD, getD-replicate, List·getD-append}
 use lib.Seq.{getD-at}
-use lib.Bits.{bitXor, bitOr, or-shifted, xor-zero-r, xor-block, xor-lt, xor-self}
+use lib.Bits.{bitAnd, bitXor, bitOr, and-mask, or-shifted, xor-zero-r, xor-block, xor-lt, xor-self}
 use Rattle.cipher.specs.Block.{Bytes, Block, _⊕_, zeros}
 use Rattle.cipher.specs.Number.{numberOf, number, bigEndian}
 use Rattle.cipher.specs.Double.{double, timesX}
@@ -108,11 +108,24 @@ module _ (b : List ℕ) (h : Block b) where
       (ap (λ (t : List ℕ). getD t 15 0) shifted ∙ shifted-last b (h .bytes) 15 0 (omega arith) ∙ add-zero _)
       (ap (λ (t : List ℕ). getD t 15 0) marked)
 
--- the code's `(x << 1) | (y >> 7)`
-pub or-shifted-bit : (x y : ℕ) → y < 256 → bitOr (x * 2 % 256) (y / 128) ≡ x * 2 % 256 + y / 128
+-- the code's `(y >> 7) & 1`: the bit that is carried
+carried-bit : (y : ℕ) → y < 256 → bitAnd (y / 128) 1 ≡ y / 128
+carried-bit y h = and-mask (y / 128) 1 ∙ omega arith
+
+-- and `(x << 1) | ((y >> 7) & 1)`
+pub or-shifted-bit : (x y : ℕ) → y < 256 → bitOr (x * 2 % 256) (bitAnd (y / 128) 1) ≡ x * 2 % 256 + y / 128
 or-shifted-bit x y h =
     let e : x * 2 % 256 ≡ x % 128 * 2 = omega arith in
-    ap (λ (z : ℕ). bitOr z (y / 128)) e ∙ or-shifted (x % 128) 1 (y / 128) (omega arith) ∙ ap (λ (z : ℕ). z + y / 128) (sym e)
+    ap₂ bitOr e (carried-bit y h) ∙ or-shifted (x % 128) 1 (y / 128) (omega arith) ∙ ap (λ (z : ℕ). z + y / 128) (sym e)
+
+-- and `0x87 & mask`, where the mask is the lost bit's negative
+pub masked-bit : (y mask : ℕ) → y < 256 → mask < 256 → (mask + bitAnd (y / 128) 1) % 2 ^ 8 ≡ 0 → bitAnd 0x87 mask ≡ 0x87 * (y / 128)
+masked-bit y mask h l e = go (y / 128) (omega arith) (sym (ap (λ (b : ℕ). (mask + b) % 256) (carried-bit y h)) ∙ e)
+  where
+    go : (b : ℕ) → b < 2 → (mask + b) % 256 ≡ 0 → bitAnd 0x87 mask ≡ 0x87 * b
+    go zero s q = let z : mask ≡ 0 = omega arith in ap (bitAnd 0x87) z
+    go (suc zero) s q = let z : mask ≡ 255 = omega arith in ap (bitAnd 0x87) z
+    go (suc (suc b)) s q = absurd (omega arith)
 
 -- ---- blocks
 

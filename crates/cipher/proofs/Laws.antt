@@ -1,13 +1,14 @@
 -- What a crate above may use of the ciphers and of CMAC: sizes and byte ranges, and that deciphering undoes enciphering and the
 -- reverse. It needs nothing of what AES is. The laws of XOR and of numbers that it shares are in Xor, Numbers and Doubling.
-use mathlib.Core.Path.{_≡_}
+use mathlib.Core.Path.{_≡_, ap}
 use mathlib.Core.List.{List}
 use Prim.Native.Nat.{ℕ}
 use native.Mathlib.Omega.{arith}
 use lib.ListN.{length}
 use Rattle.cipher.specs.Block.{Bytes, Block}
-use Rattle.cipher.specs.Aes.{keyExpansion, encipher, cipher, invCipher}
-use Rattle.cipher.specs.Cmac.{subkey1, subkey2, macBy, cmac}
+use Rattle.cipher.specs.Aes.{encipher, cipher, invCipher}
+use Rattle.cipher.specs.Cmac.{subkey1, subkey2, macBy, cmac, ready, macWith}
+use Rattle.cipher.specs.declared.cmac.MacKey.{MacKey}
 use Rattle.cipher.proofs.Chain.{subkey1-block, subkey2-block, macBy-block}
 use Rattle.fips197.proofs.Schedules.{roundKey-length}
 use Rattle.fips197.proofs.RoundTrip.{cipher-length, invCipher-length}
@@ -35,7 +36,6 @@ module _ (w : List ℕ) (hw : length w ≡ 176) where
   inv-with-length b = invCipher-length w b (roundKey-length w 0 hw (omega arith))
 
 -- CMAC with a key made ready is CMAC with the key
-pub mac-is : (key w k1 k2 m : List ℕ) → w ≡ keyExpansion key → k1 ≡ subkey1 (encipher key) → k2 ≡ subkey2 (encipher key)
-    → macBy (cipher w) k1 k2 m ≡ cmac key m
-unfolding cmac encipher
-mac-is key w k1 k2 m e e1 e2 = λ i. macBy (cipher (e i)) (e1 i) (e2 i) m
+pub mac-ready : (key : List ℕ) (k : MacKey) (m : List ℕ) → k ≡ ready key → macWith k m ≡ cmac key m
+unfolding macWith ready cmac encipher
+mac-ready key k m e = ap (λ (x : MacKey). macWith x m) e

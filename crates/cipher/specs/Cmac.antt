@@ -5,7 +5,8 @@ use lib.Dec.{eqb}
 use lib.ListN.{length, take, drop}
 use Rattle.cipher.specs.Block.{if_then_else_, _⊕_, zeros}
 use Rattle.cipher.specs.Double.{double}
-use Rattle.cipher.specs.Aes.{encipher}
+use Rattle.cipher.specs.Aes.{keyExpansion, cipher, encipher}
+use Rattle.cipher.specs.declared.cmac.MacKey.{MacKey}
 
 -- 6.1: the two subkeys of the block cipher ciph
 unfoldable pub subkey1 : (List ℕ → List ℕ) → List ℕ
@@ -40,3 +41,11 @@ macBy ciph k1 k2 m =
 -- 6.2: the MAC of m under key, all 16 bytes of it
 unfoldable pub cmac : List ℕ → List ℕ → List ℕ
 cmac key m = macBy (encipher key) (subkey1 (encipher key)) (subkey2 (encipher key)) m
+
+-- a key made ready: its schedule and its subkeys
+unfoldable pub ready : List ℕ → MacKey
+ready key = record { schedule = keyExpansion key; k1 = subkey1 (encipher key); k2 = subkey2 (encipher key) }
+
+-- the MAC of m by what is handed over as such
+unfoldable pub macWith : MacKey → List ℕ → List ℕ
+macWith k m = macBy (cipher (k .schedule)) (k .k1) (k .k2) m

@@ -1,4 +1,5 @@
 // Blocks of 16 bytes, where they stand in longer slices, and big-endian numbers.
+use std::num::wrapping_sub_u8;
 ghost use mathlib.Core.Path.{_≡_};
 ghost use Prim.Native.Nat.{_+_, _*_, _≤_};
 ghost use lib.ListN.{length, take, drop};
@@ -90,17 +91,19 @@ pub fn xor_at(out: &mut [u8], at: usize, block: [u8; 16])
     put_at(out, at, sum);
 }
 
-// A block shifted left by one bit as a big-endian number, with 87 hexadecimal XORed into the last byte if the bit lost was 1.
+// A block shifted left by one bit as a big-endian number, with 87 hexadecimal XORed into the last byte if the bit lost was 1: the bit
+// lost is made a mask of eight equal bits.
 pub fn double(b: [u8; 16]) -> [u8; 16]
     ensures { λ r. ⌜ r ≡ double b ⌝ }
 {
     let mut r = [0u8; 16];
     let mut i = 0;
     while i < 15 {
-        r[i] = (b[i] << 1) | (b[i + 1] >> 7);
+        r[i] = (b[i] << 1) | ((b[i + 1] >> 7) & 1);
         i += 1;
     }
-    r[15] = (b[15] << 1) ^ (0x87 * (b[0] >> 7));
+    let lost = wrapping_sub_u8(0, (b[0] >> 7) & 1);
+    r[15] = (b[15] << 1) ^ (0x87 & lost);
     r
 }
 

@@ -12,8 +12,8 @@ ghost use Prim.Native.Nat.{_+_, _-_, _/_, _%_, _≤_, _<_};
 ghost use lib.ListN.{length, drop};
 ghost use Rattle.fips197.specs.Block.{Tabulates};
 ghost use Rattle.tables.specs.RoundTables.{RoundTables, roundEntry};
-ghost use Rattle.cipher.specs.Aes.{sbox, cipher, encipher, keyExpansion};
-ghost use Rattle.cipher.specs.Cmac.{subkey1, subkey2, lastBlock, chain, macBy, cmac};
+ghost use Rattle.cipher.specs.Aes.{sbox, cipher};
+ghost use Rattle.cipher.specs.Cmac.{lastBlock, chain, ready, macWith, cmac};
 
 // A key made ready: its schedule and the two subkeys.
 pub struct MacKey {
@@ -24,7 +24,7 @@ pub struct MacKey {
 
 // The key made ready.
 pub fn prepare(key: [u8; 16]) -> MacKey
-    ensures { λ r. ⌜ (r .schedule ≡ keyExpansion key) × (r .k1 ≡ subkey1 (encipher key)) × (r .k2 ≡ subkey2 (encipher key)) ⌝ }
+    ensures { λ r. ⌜ r ≡ ready key ⌝ }
 {
     let schedule = aes::key_expansion(key);
     let k1 = block::double(aes::encipher_with(schedule, [0u8; 16]));
@@ -92,7 +92,7 @@ fn last_block(first: &[u8], second: &[u8], at: usize, k1: [u8; 16], k2: [u8; 16]
 
 // CMAC of two parts, one after the other, under a key made ready. The tables are taken once for all blocks.
 pub fn mac_of_parts(key: MacKey, first: &[u8], second: &[u8]) -> [u8; 16]
-    ensures { λ r. ⌜ r ≡ macBy (cipher (key .schedule)) (key .k1) (key .k2) (now (first .entry) ++ now (second .entry)) ⌝ }
+    ensures { λ r. ⌜ r ≡ macWith key (now (first .entry) ++ now (second .entry)) ⌝ }
 {
     let t = round_tables::table();
     let s = sbox::table();

@@ -7,18 +7,19 @@ use native.Mathlib.Omega.{arith}
 use lib.ListN.{length, take, drop, length-append, length-take, length-drop, take-append-drop}
 use lib.Seq.{take-at, drop-at}
 use Rattle.cipher.specs.Block.{if_then_else_, _⊕_, slot, listOf, same}
+use Rattle.cipher.specs.Aes.{encipher, decipher}
 use Rattle.cipher.proofs.Xor.{same-true, same-eq}
 use Rattle.cipher.proofs.Slots.{slot-length, slot-front, listOf-length, listOf-ext, slot-listOf}
 use Rattle.sizes.specs.Sizes.{familyOf}
 use Rattle.files.specs.Message.{itemCount, item}
 use Rattle.files.specs.TagFile.{fileSize, codeOf, countOf, tagsIn}
 use Rattle.files.proofs.Accepted.{Formed}
-use Rattle.keyed.specs.Keyed.{itemHash, tagOf, sumOfTag, tagsOf, sumsOf}
+use Rattle.keyed.specs.Keyed.{itemHash, tagOf, sumOfTag, tagsBy, sumsBy}
 use Rattle.keyed.proofs.KeyedLaws.{sumOfTag-length}
 use Rattle.sums.specs.Adding.{sumIn, Holds, Added}
 use Rattle.tagging.specs.declared.Keys.{Keys}
 use Rattle.tagging.specs.Tagging.{keysIn, tagSum, fileOf, tagFile}
-use Rattle.tagging.proofs.Writing.{tagsOf-length, file-same}
+use Rattle.tagging.proofs.Writing.{tags-length, file-same}
 use Rattle.scheme.specs.Calls.{tagsFor, sumTagged, replacedSum}
 
 -- ---- Tag
@@ -47,9 +48,9 @@ tag-read f F n k h l u =
 
 -- what the code writes for the tags' sums
 pub sums-read : (key f before after : List ℕ) (t n : ℕ) → Formed f → length key ≡ 16 → t ≡ familyOf (codeOf f) .tags → n ≡ length f - 8
-    → 16 * t ≤ length before → after ≡ sumsOf key (take n (drop 8 f)) t ++ drop (16 * t) before
+    → 16 * t ≤ length before → after ≡ sumsBy (encipher key) (decipher key) (take n (drop 8 f)) t ++ drop (16 * t) before
     → Holds (familyOf (codeOf f) .tags) (λ k. sumOfTag key k (slot (tagsIn f) (k - 1))) before after
-unfolding sumsOf sumIn fileSize
+unfolding sumsBy sumOfTag sumIn fileSize
 sums-read key f before after t n F hk et en fits e =
     let g = F .size in
     record {
@@ -116,18 +117,18 @@ same-is false a b f g = go (same a b) refl
     go true e = g (same-true a b e) ∙ sym e
     go false e = sym e
 
-pub tags-long : (key sums y tags : List ℕ) (t : ℕ) → length key ≡ 16 → 16 * t ≤ length y → tags ≡ tagsOf key sums t ++ drop (16 * t) y → length tags ≡ length y
-tags-long key sums y tags t hk h e = ap length e ∙ simp (length-append, length-drop) (omega (arith, tagsOf-length key sums t hk))
+pub tags-long : (key sums y tags : List ℕ) (t : ℕ) → length key ≡ 16 → 16 * t ≤ length y → tags ≡ tagsBy (encipher key) sums t ++ drop (16 * t) y → length tags ≡ length y
+tags-long key sums y tags t hk h e = ap length e ∙ simp (length-append, length-drop) (omega (arith, tags-length key sums t hk))
 
 module _ (k K : Keys) (s f z sums y tags : List ℕ) (c t end : ℕ) (hk : length (k .tag) ≡ 16) (ek : k ≡ K) (ec : c ≡ codeOf f) (et : t ≡ familyOf c .tags)
     (ee : end ≡ 16 * t) (F : Formed f) (H : Holds (familyOf c .tags) (tagSum k c (item s) (itemCount s)) z sums)
-    (e : tags ≡ tagsOf (k .tag) sums t ++ drop (16 * t) y) where
+    (e : tags ≡ tagsBy (encipher (k .tag)) sums t ++ drop (16 * t) y) where
   -- the tags written are the message's
   pub tags-written : take (end - 0) tags ≡ tagsFor K (codeOf f) s
-  unfolding tagsFor tagsOf sumIn
+  unfolding tagsFor tagsBy tagOf sumIn
   tags-written =
       let w : end - 0 ≡ 16 * t = omega arith in
-      ap₂ take w e ∙ take-at (tagsOf (k .tag) sums t) (drop (16 * t) y) (16 * t) (tagsOf-length (k .tag) sums t hk)
+      ap₂ take w e ∙ take-at (tagsBy (encipher (k .tag)) sums t) (drop (16 * t) y) (16 * t) (tags-length (k .tag) sums t hk)
       ∙ ap (listOf (λ i. tagOf (k .tag) (suc i) (slot sums i))) et
       ∙ listOf-ext _ _ (familyOf c .tags) (λ i l. ap (tagOf (k .tag) (suc i)) (let x : i ≡ suc i - 1 = omega arith in ap (slot sums) x ∙ H .sums (suc i) (omega arith) l))
       ∙ ap (λ (x : ℕ). tagsFor k x s) ec ∙ ap (λ (x : Keys). tagsFor x (codeOf f) s) ek

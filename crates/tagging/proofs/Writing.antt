@@ -7,20 +7,21 @@ use lib.ListN.{length, take, drop, length-append, length-take, length-drop}
 use lib.Seq.{take-at, drop-at, drop-drop}
 use Rattle.cipher.specs.Block.{slot, listOf}
 use Rattle.cipher.specs.Number.{bigEndian}
+use Rattle.cipher.specs.Aes.{encipher}
 use Rattle.cipher.specs.Cmac.{cmac}
 use Rattle.cipher.proofs.Slots.{listOf-length, listOf-ext}
 use Rattle.cipher.proofs.Laws.{cmac-length}
 use Rattle.sizes.specs.Sizes.{familyOf}
 use Rattle.files.specs.TagFile.{tagPrefix, header, body, sealed, fileSize}
-use Rattle.keyed.specs.Keyed.{tagOf, tagsOf}
+use Rattle.keyed.specs.Keyed.{tagOf, tagsBy}
 use Rattle.keyed.proofs.KeyedLaws.{tagOf-length}
 use Rattle.sums.specs.Adding.{sumIn}
 use Rattle.tagging.specs.declared.Keys.{Keys}
 use Rattle.tagging.specs.Tagging.{fileOf}
 
-pub tagsOf-length : (key s : List ℕ) (t : ℕ) → length key ≡ 16 → length (tagsOf key s t) ≡ 16 * t
-unfolding tagsOf
-tagsOf-length key s t h = listOf-length (λ k. tagOf key (suc k) (slot s k)) t (λ k l. tagOf-length key h k (slot s k))
+pub tags-length : (key s : List ℕ) (t : ℕ) → length key ≡ 16 → length (tagsBy (encipher key) s t) ≡ 16 * t
+unfolding tagsBy tagOf
+tags-length key s t h = listOf-length (λ k. tagOf key (suc k) (slot s k)) t (λ k l. tagOf-length key h k (slot s k))
 
 pub file-size : (c t : ℕ) → t ≡ familyOf c .tags → fileSize c ≡ 8 + 16 * t + 16
 unfolding fileSize
@@ -39,21 +40,21 @@ back-length xs ys new a n h l e = ap length e ∙ simp (length-append, length-ta
 
 module _ (keys : Keys) (c n t : ℕ) (sums o o1 o2 o3 : List ℕ) (hk : length (keys .tag) ≡ 16) (et : t ≡ familyOf c .tags) (fits : fileSize c ≤ length o)
     (e1 : o1 ≡ header c n ++ drop 8 o)
-    (e2 : o2 ≡ take 8 o1 ++ (tagsOf (keys .tag) sums t ++ drop (8 + 16 * t) o1))
+    (e2 : o2 ≡ take 8 o1 ++ (tagsBy (encipher (keys .tag)) sums t ++ drop (8 + 16 * t) o1))
     (e3 : o3 ≡ take (8 + 16 * t) o2 ++ (cmac (keys .seal) (take (8 + 16 * t) o2) ++ drop (8 + 16 * t + 16) o2)) where
-  two : o2 ≡ (header c n ++ tagsOf (keys .tag) sums t) ++ drop (8 + 16 * t) o
+  two : o2 ≡ (header c n ++ tagsBy (encipher (keys .tag)) sums t) ++ drop (8 + 16 * t) o
   two =
       e2
-      ∙ ap₂ (λ (a b : List ℕ). a ++ (tagsOf (keys .tag) sums t ++ b))
+      ∙ ap₂ (λ (a b : List ℕ). a ++ (tagsBy (encipher (keys .tag)) sums t ++ b))
       (ap (take 8) e1 ∙ take-at (header c n) (drop 8 o) 8 (header-length c n))
       (sym (drop-drop (16 * t) 8 o1) ∙ ap (drop (16 * t)) (ap (drop 8) e1 ∙ drop-at (header c n) (drop 8 o) 8 (header-length c n)) ∙ drop-drop (16 * t) 8 o)
-      ∙ sym (append-assoc (header c n) (tagsOf (keys .tag) sums t) (drop (8 + 16 * t) o))
+      ∙ sym (append-assoc (header c n) (tagsBy (encipher (keys .tag)) sums t) (drop (8 + 16 * t) o))
 
-  front : length (header c n ++ tagsOf (keys .tag) sums t) ≡ 8 + 16 * t
-  front = length-append (header c n) (tagsOf (keys .tag) sums t) ∙ ap₂ _+_ (header-length c n) (tagsOf-length (keys .tag) sums t hk)
+  front : length (header c n ++ tagsBy (encipher (keys .tag)) sums t) ≡ 8 + 16 * t
+  front = length-append (header c n) (tagsBy (encipher (keys .tag)) sums t) ∙ ap₂ _+_ (header-length c n) (tags-length (keys .tag) sums t hk)
 
-  tags-are : tagsOf (keys .tag) sums t ≡ listOf (λ k. tagOf (keys .tag) (suc k) (sumIn sums (suc k))) (familyOf c .tags)
-  unfolding tagsOf sumIn
+  tags-are : tagsBy (encipher (keys .tag)) sums t ≡ listOf (λ k. tagOf (keys .tag) (suc k) (sumIn sums (suc k))) (familyOf c .tags)
+  unfolding tagsBy tagOf sumIn
   tags-are =
       ap (listOf (λ k. tagOf (keys .tag) (suc k) (slot sums k))) et
       ∙ listOf-ext _ _ (familyOf c .tags) (λ k l. let z : k ≡ suc k - 1 = omega arith in ap (λ (m : ℕ). tagOf (keys .tag) (suc k) (slot sums m)) z)
@@ -61,7 +62,7 @@ module _ (keys : Keys) (c n t : ℕ) (sums o o1 o2 o3 : List ℕ) (hk : length (
   pub file-written : o3 ≡ fileOf keys c n (sumIn sums) ++ drop (fileSize c) o
   unfolding fileOf sealed body
   file-written =
-      let b = header c n ++ tagsOf (keys .tag) sums t in
+      let b = header c n ++ tagsBy (encipher (keys .tag)) sums t in
       let z = file-size c t et in
       let f = ap (take (8 + 16 * t)) two ∙ take-at b (drop (8 + 16 * t) o) (8 + 16 * t) front in
       e3

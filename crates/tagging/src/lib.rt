@@ -9,18 +9,16 @@ use files::message::Cursor;
 use files::tagfile;
 ghost use mathlib.Core.Path.{_≡_};
 ghost use mathlib.Core.Bool.{true};
-ghost use mathlib.Core.List.{List, _++_};
+ghost use mathlib.Core.List.{_++_};
 ghost use Prim.Native.Nat.{ℕ, _*_, _≤_};
 ghost use lib.ListN.{length, drop};
 ghost use Rattle.cipher.specs.Block.{zeros};
-ghost use Rattle.cipher.specs.Aes.{keyExpansion, encipher};
-ghost use Rattle.cipher.specs.Cmac.{subkey1, subkey2};
 ghost use Rattle.incidence.specs.Sum.{rowSum};
 ghost use Rattle.sizes.specs.Sizes.{known, familyOf};
 ghost use Rattle.files.specs.Refusals.{none};
 ghost use Rattle.files.specs.Message.{itemCount, item, refuse5};
 ghost use Rattle.files.specs.TagFile.{fileSize};
-ghost use Rattle.keyed.specs.Keyed.{itemHash};
+ghost use Rattle.keyed.specs.Keyed.{itemHashBy};
 ghost use Rattle.sums.specs.Adding.{sumIn, Holds, Added};
 ghost use Rattle.tagging.specs.Tagging.{keysIn, hashes, tagSum, fileOf};
 
@@ -47,7 +45,7 @@ pub fn keys_in(s: &[u8]) -> Keys
 pub fn add_item(code: u64, k: MacKey, sums: &mut [u8], j: usize, item: &[u8])
     requires { ⌜ known code ≡ true ⌝ }
     requires { ⌜ 16 * familyOf code .tags ≤ length (now sums) ⌝ }
-    ensures { λ _. ⌜ ((key : List ℕ) → k .schedule ≡ keyExpansion key → k .k1 ≡ subkey1 (encipher key) → k .k2 ≡ subkey2 (encipher key) → Added (λ t. familyOf code .on (familyOf code .rowOfTag t) j) (familyOf code .tags) (itemHash key j (now (item .entry))) (now (sums .entry)) (now (sums .exit))) ⌝ }
+    ensures { λ _. ⌜ Added (λ t. familyOf code .on (familyOf code .rowOfTag t) j) (familyOf code .tags) (itemHashBy k j (now (item .entry))) (now (sums .entry)) (now (sums .exit)) ⌝ }
 {
     let hash = keyed::item_hash(k, j as u64, item);
     sums::add_to_tags(code, sums, j, hash);

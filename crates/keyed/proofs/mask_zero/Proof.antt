@@ -1,14 +1,12 @@
--- The enciphered zero block (KeyedLaws).
-use Rattle.keyed.proofs.KeyedLaws.{mask-code}
+-- The enciphered zero block, not doubled yet.
+use Rattle.keyed.specs.Keyed.{maskBy, doubled}
 use borrow.Author.Needs.{needs}
 use Rattle.keyed.proofs.mask_zero.Statement.{statement}
 use Rattle.keyed.proofs.mask_zero.Tie as tie
 
-encipher-with-requires : tie.Need-encipher-with-requires
-encipher-with-requires c κs = search needs
-
 returns : tie.Need-returns
-returns c = λ key ew. mask-code key _ _ (c .encipher-with .ensures) ew
+unfolding maskBy doubled
+returns c = c .encipher-with .ensures
 
 pub mask-zero-spec : {M : Type 1} → statement M
-mask-zero-spec = tie.close (tie.spec encipher-with-requires returns)
+mask-zero-spec = tie.close (tie.spec (λ c κs. search needs) returns)

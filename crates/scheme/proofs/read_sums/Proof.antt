@@ -8,6 +8,7 @@ use Rattle.files.specs.TagFile.{fileSize}
 use Rattle.files.proofs.Accepted.{formed}
 use Rattle.scheme.specs.Calls.{sumTagged}
 use Rattle.scheme.proofs.Filing.{sums-read}
+use Rattle.keyed.proofs.KeyedLaws.{sums-expanded}
 use borrow.Author.Needs.{needs}
 use Rattle.scheme.proofs.read_sums.Statement.{statement}
 use Rattle.scheme.proofs.read_sums.Tie as tie
@@ -59,7 +60,7 @@ returns c =
     let f = formed (d .args .f .now) (d .pre .0) in
     let t = c .before .before .before .before .before .before .tags .ensures ∙ ap (λ (x : ℕ). familyOf x .tags) (c .before .before .before .before .before .before .before .code-of .ensures) in
     let h : length (d .args .keys .tag) ≡ 16 = search needs in
-    sums-read (d .args .keys .tag) (d .args .f .now) (d .args .sums .now) _ _ _ f h t refl (omega (arith, t, d .pre .1)) (c .before .before .write-sums .ensures (d .args .keys .tag) (c .before .before .before .before .before .key-expansion .ensures))
+    sums-read (d .args .keys .tag) (d .args .f .now) (d .args .sums .now) _ _ _ f h t refl (omega (arith, t, d .pre .1)) (sums-expanded (d .args .keys .tag) _ _ _ _ _ (c .before .before .before .before .before .key-expansion .ensures) (c .before .before .write-sums .ensures))
 
 pub read-sums-spec : {M : Type 1} → statement M
 read-sums-spec =

@@ -9,6 +9,7 @@ use Rattle.files.specs.TagFile.{fileSize, codeOf}
 use Rattle.tagging.proofs.Summing.{zero-sums}
 use Rattle.scheme.proofs.Checking.{comparable, file-code}
 use Rattle.scheme.proofs.Filing.{same-is, tags-long, tags-written, tags-there, tag-key-long}
+use Rattle.keyed.proofs.KeyedLaws.{tags-expanded}
 use borrow.Author.Needs.{needs}
 use Rattle.scheme.proofs.tags_equal.Statement.{statement}
 use Rattle.scheme.proofs.tags_equal.Tie as tie
@@ -83,7 +84,7 @@ part-same-end c =
     let m = tags-few (codeOf (d .args .f .now)) in
     let k = c .before .before .before .before .before .before .before .before .before .before .before .before .keys-in .result in
     let h = tag-key-long k _ (c .before .before .before .before .before .before .before .before .before .before .before .before .keys-in .ensures) (p .keys48) in
-    let w = c .before .before .write-tags .ensures (k .tag) (c .before .before .before .before .before .key-expansion .ensures) in
+    let w = tags-expanded (k .tag) _ _ _ _ _ (c .before .before .before .before .before .key-expansion .ensures) (c .before .before .write-tags .ensures) in
     let q : 16 * c .before .before .before .before .before .before .before .before .before .tags .result ≤ 1312 = omega (arith, t, m, c .before .before .before .before .before .before .before .before .before .tags .ensures) in
     omega (arith, q, tags-long (k .tag) _ (zeros 1312) _ _ h q w)
 
@@ -125,7 +126,7 @@ returns c =
     let m = tags-few (codeOf (d .args .f .now)) in
     let k = c .before .before .before .before .before .before .before .before .before .before .before .before .before .before .before .keys-in .result in
     let h = tag-key-long k _ (c .before .before .before .before .before .before .before .before .before .before .before .before .before .before .before .keys-in .ensures) (p .keys48) in
-    let w = c .before .before .before .before .before .write-tags .ensures (k .tag) (c .before .before .before .before .before .before .before .before .key-expansion .ensures) in
+    let w = tags-expanded (k .tag) _ _ _ _ _ (c .before .before .before .before .before .before .before .before .key-expansion .ensures) (c .before .before .before .before .before .write-tags .ensures) in
     let g = c .before .before .before .before .before .before .before .before .before .before .sum-tags .ensures in
     let T = c .before .before .before .before .before .before .before .before .before .before .before .before .tags .ensures in
     same-is _ _ _ (c .same .ensures .0) (c .same .ensures .1)

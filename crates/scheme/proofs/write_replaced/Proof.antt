@@ -8,6 +8,7 @@ use Rattle.sizes.proofs.Laws.{tags-few}
 use Rattle.files.specs.TagFile.{fileSize, codeOf, countOf}
 use Rattle.scheme.proofs.Checking.{replaceable, file-code, file-count}
 use Rattle.scheme.proofs.Filing.{replaced-made}
+use Rattle.tagging.proofs.Summing.{added-ready}
 use borrow.Author.Needs.{needs}
 use Rattle.scheme.proofs.write_replaced.Statement.{statement}
 use Rattle.scheme.proofs.write_replaced.Tie as tie
@@ -65,7 +66,7 @@ add-item-requires-2 c κs =
     let t = ap (λ (x : ℕ). familyOf x .tags) e in
     let m = tags-few (codeOf (d .args .f .now)) in
     let k = c .before .before .before .before .before .before .before .before .before .before .before .keys-in .result in
-    (ap known e ∙ file-code _ (p .file), omega (arith, t, m, c .before .before .before .before .before .before .read-sums .ensures .size, c .before .before .add-item .ensures (k .item) (c .before .before .before .before .prepare .ensures .0) (c .before .before .before .before .prepare .ensures .1) (c .before .before .before .before .prepare .ensures .2) .size))
+    (ap known e ∙ file-code _ (p .file), omega (arith, t, m, c .before .before .before .before .before .before .read-sums .ensures .size, c .before .before .add-item .ensures .size))
 
 slice-aggregate-write-file : tie.Need-slice-aggregate-write-file
 slice-aggregate-write-file c = search needs
@@ -85,7 +86,7 @@ write-file-requires c κs =
       ap known e ∙ file-code _ (p .file),
       (
         omega (arith, q, file-count _ (p .file), c .before .before .before .before .before .before .before .before .before .before .before .before .number16 .ensures .0),
-        (omega (arith, t, m, c .before .before .before .before .before .before .before .before .before .before .read-sums .ensures .size, c .before .before .before .before .before .before .add-item .ensures (k .item) (r .0) (r .1) (r .2) .size, c .before .before .before .add-item2 .ensures (k .item) (r .0) (r .1) (r .2) .size), omega (arith, w, p .fits)),
+        (omega (arith, t, m, c .before .before .before .before .before .before .before .before .before .before .read-sums .ensures .size, c .before .before .before .before .before .before .add-item .ensures .size, c .before .before .before .add-item2 .ensures .size), omega (arith, w, p .fits)),
       ),
     )
 
@@ -100,7 +101,7 @@ returns c =
     let r = c .before .before .before .before .before .before .before .before .before .before .before .prepare .ensures in
     replaced-made k _ (d .args .f .now) (c .before .before .before .before .before .before .before .before .before .before .before .before .before .before .before .before .code-of .result) (c .before .before .before .before .before .before .before .before .before .before .before .before .before .before .before .number16 .result) (d .args .j) (d .args .old .now) (d .args .new .now) _ _ _ _ (d .args .out .now) _
     (c .before .before .before .before .before .before .before .before .before .before .before .before .before .before .before .before .before .before .keys-in .ensures) (c .before .before .before .before .before .before .before .before .before .before .before .before .before .before .before .before .code-of .ensures) (c .before .before .before .before .before .before .before .before .before .before .before .before .before .before .before .number16 .ensures .0)
-    (c .before .before .before .before .before .before .before .before .before .before .before .before .before .read-sums .ensures) (c .before .before .before .before .before .before .before .before .before .add-item .ensures (k .item) (r .0) (r .1) (r .2)) (c .before .before .before .before .before .before .add-item2 .ensures (k .item) (r .0) (r .1) (r .2))
+    (c .before .before .before .before .before .before .before .before .before .before .before .before .before .read-sums .ensures) (added-ready (c .before .before .before .before .before .before .before .before .before .before .before .before .before .before .before .before .code-of .result) (d .args .j) (k .item) _ (d .args .old .now) _ _ r (c .before .before .before .before .before .before .before .before .before .add-item .ensures)) (added-ready (c .before .before .before .before .before .before .before .before .before .before .before .before .before .before .before .before .code-of .result) (d .args .j) (k .item) _ (d .args .new .now) _ _ r (c .before .before .before .before .before .before .add-item2 .ensures))
     (c .before .before .write-file .ensures)
 
 pub write-replaced-spec : {M : Type 1} → statement M

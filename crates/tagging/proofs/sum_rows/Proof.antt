@@ -4,24 +4,21 @@ use mathlib.Core.List.{List}
 use Prim.Native.Nat.{ℕ, _-_, _≤_}
 use native.Mathlib.Omega.{arith}
 use lib.ListN.{length}
-use Rattle.cipher.specs.Aes.{keyExpansion, encipher}
-use Rattle.cipher.specs.Cmac.{subkey1, subkey2}
 use Rattle.incidence.specs.Sum.{rowSum}
 use Rattle.sizes.specs.Sizes.{familyOf}
 use Rattle.files.specs.Message.{behind, item, itemCount}
 use Rattle.files.proofs.Messages.{behind-more}
-use Rattle.keyed.specs.Keyed.{itemHash}
+use Rattle.keyed.specs.Keyed.{itemHashBy}
 use Rattle.sums.specs.Adding.{Holds}
 use Rattle.tagging.specs.Tagging.{hashes}
-use Rattle.tagging.proofs.Summing.{summed-first, summed-next, summed-as, item-here, fits-here}
+use Rattle.tagging.proofs.Summing.{summed-first, summed-next, summed-as, summed-ready, item-here, fits-here}
 use borrow.Author.Needs.{needs}
 use Rattle.tagging.proofs.sum_rows.Statement.{statement}
 use Rattle.tagging.proofs.sum_rows.Tie as tie
 
 abbrev Inv-loop : tie.InvT-loop
 Inv-loop code s sums₀ k n c₀ sums c = (c .passed ≤ n) × (c .at ≡ behind s (c .passed)) × (length sums ≡ length sums₀)
-    × ((key : List ℕ) → k .schedule ≡ keyExpansion key → k .k1 ≡ subkey1 (encipher key) → k .k2 ≡ subkey2 (encipher key)
-    → Holds (familyOf code .rows) (λ t. rowSum (familyOf code) (λ j. itemHash key j (item s j)) (c .passed) t) sums₀ sums)
+    × Holds (familyOf code .rows) (λ t. rowSum (familyOf code) (λ j. itemHashBy k j (item s j)) (c .passed) t) sums₀ sums
 
 abbrev μ-loop : tie.MeasureT-loop
 μ-loop code s sums₀ k n c₀ sums c = n - c .passed
@@ -40,12 +37,13 @@ unfolding behind
 loop-holds c =
     let f = c .first .ensures in
     let d = c .before .before .before .before .before .before in
+    let k = c .before .before .prepare .result in
     let F = familyOf (d .args .code) in (
       omega (arith, f .1),
       f .0 ∙ ap (behind (d .args .s .now)) (sym (f .1)),
       refl,
-      λ key a b e. summed-as F (F .rows) (λ i. i) (λ j. itemHash key j (item (d .args .s .now) j)) 0 (c .first .result .passed) _ _ (sym (f .1))
-          (summed-first F (F .rows) (λ i. i) (λ j. itemHash key j (item (d .args .s .now) j)) (d .args .sums .now) (d .pre .1 .1)),
+      summed-as F (F .rows) (λ i. i) (λ j. itemHashBy k j (item (d .args .s .now) j)) 0 (c .first .result .passed) _ _ (sym (f .1))
+          (summed-first F (F .rows) (λ i. i) (λ j. itemHashBy k j (item (d .args .s .now) j)) (d .args .sums .now) (d .pre .1 .1)),
     )
 
 add-start : tie.Need-add-start Inv-loop μ-loop
@@ -97,13 +95,14 @@ loop-again c =
     let d = l .before .before .before .before .before .before .before in
     let F = familyOf (d .args .code) in
     let s = d .args .s .now in
+    let k = l .before .before .before .prepare .result in
     let q = l .loop .c in (
       omega (arith, x .next .ensures .1, x .before .before .if1 .taken),
       x .next .ensures .0 ∙ behind-more s (q .passed) (q .at) (l .loop .inv .1) ∙ ap (behind s) (sym (x .next .ensures .1)),
       search needs,
-      λ key a b e. summed-next F (F .rows) (λ i. i) (λ j. itemHash key j (item s j)) (d .args .sums .now) (l .loop .sums) _ _ (q .passed) (x .next .result .passed) (x .next .ensures .1)
-          (c .before .before .before .before .item-hash .ensures key a b e ∙ ap (itemHash key (x .next .result .passed)) (item-here s (q .passed) (x .next .result .passed) (q .at) (x .next .result .at) (l .loop .inv .1) (x .next .ensures .1) (x .next .ensures .0)))
-          (l .loop .inv .3 key a b e) (c .before .before .add-to-rows .ensures),
+      summed-next F (F .rows) (λ i. i) (λ j. itemHashBy k j (item s j)) (d .args .sums .now) (l .loop .sums) _ _ (q .passed) (x .next .result .passed) (x .next .ensures .1)
+          (c .before .before .before .before .item-hash .ensures ∙ ap (itemHashBy k (x .next .result .passed)) (item-here s (q .passed) (x .next .result .passed) (q .at) (x .next .result .at) (l .loop .inv .1) (x .next .ensures .1) (x .next .ensures .0)))
+          (l .loop .inv .3) (c .before .before .add-to-rows .ensures),
     )
 
 same-length : tie.Need-same-length Inv-loop μ-loop
@@ -117,8 +116,7 @@ returns c =
     let F = familyOf (d .args .code) in
     let p = l .before .before .before .prepare .ensures in
     let e : l .loop .c .passed ≡ l .before .before .number16 .result = omega (arith, l .loop .inv .0) in
-    summed-as F (F .rows) (λ i. i) (λ j. itemHash (d .args .keys .item) j (item (d .args .s .now) j)) (l .loop .c .passed) _ _ _ (e ∙ l .before .before .number16 .ensures .0)
-    (l .loop .inv .3 (d .args .keys .item) (p .0) (p .1) (p .2))
+    summed-ready F (F .rows) (λ i. i) (d .args .keys .item) _ (item (d .args .s .now)) (l .loop .c .passed) _ _ _ p (e ∙ l .before .before .number16 .ensures .0) (l .loop .inv .3)
 
 pub sum-rows-spec : {M : Type 1} → statement M
 sum-rows-spec =

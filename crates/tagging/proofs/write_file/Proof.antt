@@ -3,10 +3,12 @@ use mathlib.Core.Path.{_≡_}
 use Prim.Native.Nat.{_+_, _*_, _≤_}
 use native.Mathlib.Omega.{arith}
 use lib.ListN.{length, length-take, length-drop}
+use Rattle.cipher.specs.Aes.{encipher}
 use Rattle.cipher.proofs.Loop.{part-back}
 use Rattle.sizes.proofs.Laws.{code-byte, items-few, tags-few}
-use Rattle.keyed.specs.Keyed.{tagsOf}
-use Rattle.tagging.proofs.Writing.{file-size, tagsOf-length, headed-length, back-length, file-written}
+use Rattle.keyed.specs.Keyed.{tagsBy}
+use Rattle.keyed.proofs.KeyedLaws.{tags-expanded}
+use Rattle.tagging.proofs.Writing.{file-size, tags-length, headed-length, back-length, file-written}
 use borrow.Author.Needs.{needs}
 use Rattle.tagging.proofs.write_file.Statement.{statement}
 use Rattle.tagging.proofs.write_file.Tie as tie
@@ -87,8 +89,8 @@ seal-requires c κs =
     let l = headed-length (d .args .code) (d .args .n) (d .args .out .now) o (omega (arith, d .pre .1 .1 .1)) (c .before .before .before .before .before .before .before .before .put-header .ensures) in
     let k : length (d .args .keys .tag) ≡ 16 = search needs in
     let r : 8 + 16 * t ≤ length o = omega (arith, d .pre .1 .1 .1) in
-    let e = part-back o _ (tagsOf (d .args .keys .tag) (d .args .sums .now) t) 8 (16 * t) r (c .before .before .before .write-tags .ensures (d .args .keys .tag) (c .before .before .before .before .before .key-expansion .ensures)) in
-    let q = back-length o _ (tagsOf (d .args .keys .tag) (d .args .sums .now) t) 8 (16 * t) r (tagsOf-length (d .args .keys .tag) (d .args .sums .now) t k) e in
+    let e = part-back o _ (tagsBy (encipher (d .args .keys .tag)) (d .args .sums .now) t) 8 (16 * t) r (tags-expanded (d .args .keys .tag) _ _ _ _ t (c .before .before .before .before .before .key-expansion .ensures) (c .before .before .before .write-tags .ensures)) in
+    let q = back-length o _ (tagsBy (encipher (d .args .keys .tag)) (d .args .sums .now) t) 8 (16 * t) r (tags-length (d .args .keys .tag) (d .args .sums .now) t k) e in
     omega (arith, z, l, q, d .pre .1 .1 .1)
 
 same-length : tie.Need-same-length
@@ -103,7 +105,7 @@ returns c =
     let l = headed-length (d .args .code) (d .args .n) (d .args .out .now) o (omega (arith, d .pre .1 .1 .1)) (c .before .before .before .before .before .before .before .before .before .before .before .put-header .ensures) in
     let k : length (d .args .keys .tag) ≡ 16 = search needs in
     let r : 8 + 16 * t ≤ length o = omega (arith, d .pre .1 .1 .1) in
-    let e = part-back o _ (tagsOf (d .args .keys .tag) (d .args .sums .now) t) 8 (16 * t) r (c .before .before .before .before .before .before .write-tags .ensures (d .args .keys .tag) (c .before .before .before .before .before .before .before .before .key-expansion .ensures)) in
+    let e = part-back o _ (tagsBy (encipher (d .args .keys .tag)) (d .args .sums .now) t) 8 (16 * t) r (tags-expanded (d .args .keys .tag) _ _ _ _ t (c .before .before .before .before .before .before .before .before .key-expansion .ensures) (c .before .before .before .before .before .before .write-tags .ensures)) in
     file-written (d .args .keys) (d .args .code) (d .args .n) t (d .args .sums .now) (d .args .out .now) o _ _ k (c .before .before .before .before .before .before .before .before .before .before .before .before .before .before .before .tags .ensures) (d .pre .1 .1 .1)
     (c .before .before .before .before .before .before .before .before .before .before .before .put-header .ensures) e (c .before .before .seal .ensures)
 

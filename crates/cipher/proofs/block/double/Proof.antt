@@ -4,13 +4,14 @@ use Prim.Native.Nat.{ℕ, _+_, _-_, _*_, _/_, _%_, _≤_, _<_}
 use native.Mathlib.Omega.{arith}
 use native.Mathlib.Numerals.{add-one}
 use lib.ListN.{length, getD}
+use lib.Bits.{bitXor}
 use Rattle.cipher.proofs.Loop.{part, part-turn, part-done}
 use Rattle.cipher.specs.Block.{Block, zeros}
 use mir.Val.{Fits}
 use mir.Syntax.{w8}
 use Rattle.cipher.proofs.Xor.{bytes-from}
 use Rattle.cipher.specs.Double.{double}
-use Rattle.cipher.proofs.Doubling.{double-at, double-last, double-length, or-shifted-bit}
+use Rattle.cipher.proofs.Doubling.{double-at, double-last, double-length, or-shifted-bit, masked-bit}
 use borrow.Author.Needs.{needs}
 use Rattle.cipher.proofs.block.double.Statement.{statement}
 use Rattle.cipher.proofs.block.double.Tie as tie
@@ -23,24 +24,6 @@ abbrev μ-loop : tie.MeasureT-loop
 
 loop-holds : tie.Need-loop-holds Inv-loop μ-loop
 loop-holds c = (omega arith, refl)
-
-array-read-r : tie.Need-array-read-r Inv-loop μ-loop
-array-read-r c = search needs
-
-add-r : tie.Need-add-r Inv-loop μ-loop
-add-r c = search needs
-
-array-read-r-2 : tie.Need-array-read-r-2 Inv-loop μ-loop
-array-read-r-2 c = search needs
-
-array-write-r : tie.Need-array-write-r Inv-loop μ-loop
-array-write-r c = search needs
-
-add-i : tie.Need-add-i Inv-loop μ-loop
-add-i c = search needs
-
-loop-less : tie.Need-loop-less Inv-loop μ-loop
-loop-less c = search needs
 
 loop-again : tie.Need-loop-again Inv-loop μ-loop
 loop-again c =
@@ -57,46 +40,22 @@ loop-again c =
           ∙ sym (double-at b bl i (omega arith))),
     )
 
-array-read-r-3 : tie.Need-array-read-r-3 Inv-loop μ-loop
-array-read-r-3 c = search needs
-
-array-read-r-4 : tie.Need-array-read-r-4 Inv-loop μ-loop
-array-read-r-4 c = search needs
-
-mul-r : tie.Need-mul-r Inv-loop μ-loop
-mul-r c = let h : Fits w8 (getD (c .before .before .args .t1) 0 0) = search needs in omega arith
-
-array-write-r-2 : tie.Need-array-write-r-2 Inv-loop μ-loop
-array-write-r-2 c = search needs
-
 returns : tie.Need-returns Inv-loop μ-loop
 returns c =
-    let b = c .before .before .args .t1 in
+    let b = c .before .before .before .args .t1 in
     let h : length b ≡ 16 = search needs in
     let f : (k : ℕ) → k < length b → Fits w8 (getD b k 0) = λ k l. (let l′ : k < 16 = omega arith in search needs) in
     let bl : Block b = record { long = h; bytes = bytes-from b (λ k l. f k l .fits) } in
     let n : length (double b) ≡ 16 = double-length b in
-    let e : c .before .loop .i ≡ 15 = omega arith in
+    let e : c .before .before .loop .i ≡ 15 = omega arith in
+    let m = masked-bit (getD b 0 0) (c .wrapping-sub-u8 .result) (f 0 (omega arith) .fits) (search needs) (c .wrapping-sub-u8 .ensures) in
     part-done 16 16 (double b) (zeros 16) _
-    (part-turn 15 (double b) (zeros 16) _ _ (c .before .loop .inv .1 ∙ ap (λ (k : ℕ). part k (double b) (zeros 16)) e) (omega arith) (omega arith) (sym (double-last b bl)))
+    (part-turn 15 (double b) (zeros 16) _ _ (c .before .before .loop .inv .1 ∙ ap (λ (k : ℕ). part k (double b) (zeros 16)) e) (omega arith) (omega arith)
+    (ap (bitXor (getD b 15 0 * 2 % 256)) m ∙ sym (double-last b bl)))
     (omega arith) n refl
 
 pub double-spec : {M : Type 1} → statement M
 double-spec =
     tie.close
-    (tie.spec
-    Inv-loop
-    μ-loop
-    loop-holds
-    array-read-r
-    add-r
-    array-read-r-2
-    array-write-r
-    add-i
-    loop-less
-    loop-again
-    array-read-r-3
-    array-read-r-4
-    mul-r
-    array-write-r-2
-    returns)
+    (tie.spec Inv-loop μ-loop loop-holds (λ c. search needs) (λ c. search needs) (λ c. search needs) (λ c. search needs) (λ c. search needs)
+    (λ c. search needs) loop-again (λ c. search needs) (λ c κs. search needs) (λ c. search needs) (λ c. search needs) returns)

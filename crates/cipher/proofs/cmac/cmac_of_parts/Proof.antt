@@ -1,7 +1,7 @@
 -- The key made ready gives what the key gives (Laws).
 use mathlib.Core.Path.{_∙_}
 use mathlib.Core.List.{_++_}
-use Rattle.cipher.proofs.Laws.{mac-is}
+use Rattle.cipher.proofs.Laws.{mac-ready}
 use borrow.Author.Needs.{needs}
 use Rattle.cipher.proofs.cmac.cmac_of_parts.Statement.{statement}
 use Rattle.cipher.proofs.cmac.cmac_of_parts.Tie as tie
@@ -15,9 +15,7 @@ mac-of-parts-requires c κs = search needs
 returns : tie.Need-returns
 returns c =
     let d = c .before .before .before .before in
-    let k = c .before .prepare .ensures in
-    c .mac-of-parts .ensures
-    ∙ mac-is (d .args .key) _ _ _ (d .args .first .now ++ d .args .second .now) (k .0) (k .1) (k .2)
+    c .mac-of-parts .ensures ∙ mac-ready (d .args .key) _ (d .args .first .now ++ d .args .second .now) (c .before .prepare .ensures)
 
 pub cmac-of-parts-spec : {M : Type 1} → statement M
 cmac-of-parts-spec = tie.close (tie.spec prepare-requires mac-of-parts-requires returns)

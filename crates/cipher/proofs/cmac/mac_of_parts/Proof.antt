@@ -7,6 +7,7 @@ use lib.ListN.{length, length-append}
 use Rattle.cipher.specs.Block.{_⊕_}
 use Rattle.cipher.specs.Aes.{cipher}
 use Rattle.cipher.proofs.Chain.{mac-last}
+use Rattle.cipher.specs.Cmac.{macWith}
 use borrow.Author.Needs.{needs}
 use Rattle.cipher.proofs.cmac.mac_of_parts.Statement.{statement}
 use Rattle.cipher.proofs.cmac.mac_of_parts.Tie as tie
@@ -30,6 +31,7 @@ cipher-requires : tie.Need-cipher-requires
 cipher-requires c κs = search needs
 
 returns : tie.Need-returns
+unfolding macWith
 returns c =
     let d = c .before .before .before .before .before .before .before .before .before .before .before .before .before .before .before .before .before .before .args in
     let k = d .key in

@@ -1,6 +1,6 @@
 -- The subkeys are doublings of the enciphered zero block.
 use mathlib.Core.Path.{ap, _∙_}
-use Rattle.cipher.specs.Cmac.{subkey1, subkey2}
+use Rattle.cipher.specs.Cmac.{subkey1, subkey2, ready}
 use Rattle.cipher.proofs.Laws.{encipher-is}
 use Rattle.cipher.specs.Double.{double}
 use Rattle.cipher.specs.Block.{zeros}
@@ -21,13 +21,14 @@ double-requires-2 : tie.Need-double-requires-2
 double-requires-2 c κs = search needs
 
 returns : tie.Need-returns
-unfolding subkey1 subkey2
+unfolding ready subkey1 subkey2
 returns c =
     let d = c .before .before .before .before in
     let key = d .args .key in
     let k = c .before .before .before .key-expansion .ensures in
     let e1 = c .before .double .ensures ∙ ap double (c .before .before .encipher-with .ensures ∙ encipher-is key _ (zeros 16) k) in
-    (k, e1, c .double2 .ensures ∙ ap double e1)
+    let e2 = c .double2 .ensures ∙ ap double e1 in
+    λ i. record { schedule = k i; k1 = e1 i; k2 = e2 i }
 
 pub prepare-spec : {M : Type 1} → statement M
 prepare-spec =

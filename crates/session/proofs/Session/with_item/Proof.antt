@@ -1,6 +1,8 @@
 -- The sums take the item's hash (Stepping).
 use mathlib.Core.Path.{_≡_}
+use Prim.Native.Nat.{_+_}
 use lib.ListN.{length}
+use Rattle.tagging.proofs.Summing.{added-ready}
 use Rattle.session.proofs.Carried.{sums-fit, added-is}
 use Rattle.session.proofs.Stepping.{with-item-is}
 use borrow.Author.Needs.{needs}
@@ -29,8 +31,8 @@ returns c =
     let d = p .before .before .before .before .before .before in
     let s = d .args .self in
     let h : length (s .sums) ≡ 1312 = search needs in
-    let q = p .prepare .ensures in
-    with-item-is s (d .args .item .now) _ (added-is (s .code) _ _ (s .sums) _ h (c .before .add-item .ensures (s .keys .item) (q .0) (q .1) (q .2)))
+    with-item-is s (d .args .item .now) _
+    (added-is (s .code) _ _ (s .sums) _ h (added-ready (s .code) (s .taken + 1) (s .keys .item) _ (d .args .item .now) _ _ (p .prepare .ensures) (c .before .add-item .ensures)))
 
 pub with-item-spec : {M : Type 1} → statement M
 with-item-spec = tie.close (tie.spec add-j prepare-requires slice-aggregate-add-item add-item-requires returns)
