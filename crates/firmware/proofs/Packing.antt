@@ -1,6 +1,6 @@
 -- What was packed is read back, and what each function packs.
 use mathlib.Core.Path.{_≡_, refl, sym, ap, _∙_, subst}
-use mathlib.Core.Bool.{Bool, true, false}
+use mathlib.Core.Bool.{Bool, true, false, not}
 use mathlib.Core.List.{List}
 use Prim.Native.Nat.{ℕ, _+_, _*_, _/_, _%_, _≤_, _<_}
 use native.Mathlib.Omega.{arith}
@@ -8,21 +8,21 @@ use lib.Dec.{eqb}
 use lib.ListN.{length}
 use borrow.Author.Tests.{eqb-true, eqb-false}
 use Rattle.incidence.specs.Count.{indicator}
-use Rattle.incidence.specs.Report.{named, numberNamed, meaning}
+use Rattle.incidence.specs.Report.{named, numberNamed, disagreeing, meaning}
 use Rattle.incidence.specs.declared.Answer.{Answer}
 use Rattle.incidence.specs.declared.Answer.the-variants.{Intact, Named, Beyond}
 use Rattle.incidence.proofs.Counting.{count-most}
 use Rattle.sizes.specs.Sizes.{familyOf}
-use Rattle.sizes.proofs.Laws.{items-few}
+use Rattle.sizes.proofs.Laws.{items-few, rows-few}
 use Rattle.files.specs.declared.Refusal.{Refusal}
 use Rattle.files.specs.Message.{itemCount}
 use Rattle.files.specs.TagFile.{codeOf}
 use Rattle.tagging.specs.Tagging.{keysIn}
 use Rattle.files.proofs.Passing.{given, kept}
-use Rattle.scheme.specs.Calls.{reportRefusal, agrees, reportNamed}
+use Rattle.scheme.specs.Calls.{reportRefusal, agrees, reportAnswer, reportNamed, reportRows}
 use Rattle.scheme.specs.Claim.{Claim}
 use Rattle.scheme.proofs.Checking.{Reportable, reportable, file-count}
-use Rattle.firmware.specs.Packed.{packed, packedYes, packedReport, numberIn, placeIn, yesIn, answerIn, namedIn, rowsIn}
+use Rattle.firmware.specs.Packed.{packed, packedYes, packedReport, numberIn, placeIn, yesIn, answerIn, namedIn, rowsIn, ReadsReport}
 
 -- ---- refusals
 
@@ -111,15 +111,29 @@ names-few keys s f out R =
     let q = R .files in
     omega (arith, count-most (named (familyOf (codeOf f)) (agrees (keysIn keys) s f)) (itemCount s), q .counts, file-count f (q .file), items-few (codeOf f))
 
-pub claim-packed : (keys s f before marks : List ℕ) (r : Refusal) (a : Answer) (names rows w : ℕ)
-    → r ≡ reportRefusal keys s f (length before) → names ≡ reportNamed keys s f before → w ≡ packedReport r a names rows
-    → (numberIn w ≡ 0 → r .number ≡ 0) → (r .number ≡ 0 → Claim keys s f marks names a)
-    → numberIn w ≡ 0 → (said : Answer) → meaning said .ordinal ≡ answerIn w → Claim keys s f marks (namedIn w) said
-unfolding reportNamed
-claim-packed keys s f before marks r a names rows w er en ew z D e said es =
-    let h = z e in
-    let R = reportable keys s f (length before) r er h in
-    let n = en ∙ sym (given r (reportRefusal keys s f (length before)) er _ 0 h) in
-    let b = ap namedIn ew ∙ named-back r a names rows h (subst (λ (x : ℕ). x < 65536) (sym n) (names-few keys s f before R)) in
-    let t = ordinal-tells said a (es ∙ ap answerIn ew ∙ answer-back r a names rows h) in
-    subst (λ (x : Answer). Claim keys s f marks (namedIn w) x) (sym t) (subst (λ (x : ℕ). Claim keys s f marks x a) (sym b) (D h))
+rows-small : (keys s f : List ℕ) → disagreeing (agrees (keysIn keys) s f) (familyOf (codeOf f) .rows) < 65536
+unfolding disagreeing
+rows-small keys s f = omega (arith, count-most (λ i. not (agrees (keysIn keys) s f i)) (familyOf (codeOf f) .rows), rows-few (codeOf f))
+
+module _ (keys s f before : List ℕ) (r : Refusal) (a : Answer) (names rows w : ℕ) (er : r ≡ reportRefusal keys s f (length before)) (ea : a ≡ reportAnswer keys s f before)
+    (en : names ≡ reportNamed keys s f before) (em : rows ≡ reportRows keys s f before) (ew : w ≡ packedReport r a names rows)
+    (z : numberIn w ≡ 0 → r .number ≡ 0) (e : numberIn w ≡ 0) where
+  -- what is packed is read back
+  pub report-read : ReadsReport w (reportAnswer keys s f before) (reportNamed keys s f before) (reportRows keys s f before)
+  unfolding reportNamed reportRows
+  report-read =
+      let h = z e in
+      let R = reportable keys s f (length before) r er h in
+      let n = en ∙ sym (given r (reportRefusal keys s f (length before)) er _ 0 h) in
+      let m = em ∙ sym (given r (reportRefusal keys s f (length before)) er _ 0 h) in
+      record {
+        answer = ap answerIn ew ∙ answer-back r a names rows h ∙ ap (λ (x : Answer). meaning x .ordinal) ea;
+        named = ap namedIn ew ∙ named-back r a names rows h (subst (λ (x : ℕ). x < 65536) (sym n) (names-few keys s f before R)) ∙ en;
+        disagreeing = ap rowsIn ew ∙ rows-back r a names rows h (subst (λ (x : ℕ). x < 65536) (sym m) (rows-small keys s f)) ∙ em;
+      }
+
+  pub claim-packed : (marks : List ℕ) → (r .number ≡ 0 → Claim keys s f marks names a) → (said : Answer) → meaning said .ordinal ≡ answerIn w → Claim keys s f marks (namedIn w) said
+  claim-packed marks D said es =
+      let R = report-read in
+      let t = ordinal-tells said a (es ∙ R .answer ∙ ap (λ (x : Answer). meaning x .ordinal) (sym ea)) in
+      subst (λ (x : Answer). Claim keys s f marks (namedIn w) x) (sym t) (subst (λ (x : ℕ). Claim keys s f marks x a) (en ∙ sym (R .named)) (D (z e)))

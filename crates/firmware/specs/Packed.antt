@@ -1,6 +1,7 @@
 -- One 64-bit number for what a call says, so that a refused call touches no memory at all. Bits 0 to 7: the refusal's number, 0 where the
 -- call did its work. Refused: bits 8 to 31 are the place. Done: Verify has bit 8 set for yes; Report has the answer in bits 8 to 15
 -- (intact 0, named 1, beyond 2), the number named in bits 16 to 31 and the disagreeing rows in bits 32 to 47. Assumes nothing.
+use mathlib.Core.Path.{_≡_}
 use mathlib.Core.Bool.{Bool}
 use Prim.Native.Nat.{ℕ, _+_, _*_, _/_, _%_}
 use Rattle.cipher.specs.Block.{if_then_else_}
@@ -41,3 +42,9 @@ namedIn w = w / 65536 % 65536
 
 unfoldable pub rowsIn : ℕ → ℕ
 rowsIn w = w / 4294967296 % 65536
+
+-- C reads this answer, this number of named items and this number of disagreeing rows
+pub record ReadsReport (w : ℕ) (said : Answer) (names rows : ℕ) : Type 0 where
+  pub answer : answerIn w ≡ meaning said .ordinal
+  pub named : namedIn w ≡ names
+  pub disagreeing : rowsIn w ≡ rows

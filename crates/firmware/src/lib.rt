@@ -10,7 +10,7 @@ ghost use Rattle.incidence.specs.Report.{meaning};
 ghost use Rattle.incidence.specs.declared.Answer.{Answer};
 ghost use Rattle.scheme.specs.Calls.{tagRefusal, tagWrites, verifyRefusal, verifyYes, reportRefusal, reportWrites, reportAnswer, reportNamed, reportRows, replaceRefusal, replaceWrites};
 ghost use Rattle.scheme.specs.Claim.{Claim};
-ghost use Rattle.firmware.specs.Packed.{packed, packedYes, packedReport, numberIn, answerIn, namedIn};
+ghost use Rattle.firmware.specs.Packed.{packed, packedYes, packedReport, numberIn, answerIn, namedIn, ReadsReport};
 
 // A refusal as one number.
 fn pack(r: Refusal) -> u64
@@ -76,6 +76,7 @@ pub extern "C" fn gtm_verify(keys: &[u8], message: &[u8], tagfile: &[u8]) -> u64
 pub extern "C" fn gtm_report(keys: &[u8], message: &[u8], tagfile: &[u8], marks: &mut [u8]) -> u64
     ensures says { λ w. ⌜ w ≡ packedReport (reportRefusal (now (keys .entry)) (now (message .entry)) (now (tagfile .entry)) (length (now (marks .entry)))) (reportAnswer (now (keys .entry)) (now (message .entry)) (now (tagfile .entry)) (now (marks .entry))) (reportNamed (now (keys .entry)) (now (message .entry)) (now (tagfile .entry)) (now (marks .entry))) (reportRows (now (keys .entry)) (now (message .entry)) (now (tagfile .entry)) (now (marks .entry))) ⌝ }
     ensures written { λ _. ⌜ now (marks .exit) ≡ reportWrites (now (keys .entry)) (now (message .entry)) (now (tagfile .entry)) (now (marks .entry)) ⌝ }
+    ensures read { λ w. ⌜ (numberIn w ≡ 0 → ReadsReport w (reportAnswer (now (keys .entry)) (now (message .entry)) (now (tagfile .entry)) (now (marks .entry))) (reportNamed (now (keys .entry)) (now (message .entry)) (now (tagfile .entry)) (now (marks .entry))) (reportRows (now (keys .entry)) (now (message .entry)) (now (tagfile .entry)) (now (marks .entry)))) ⌝ }
     ensures detection { λ w. ⌜ (numberIn w ≡ 0 → (said : Answer) → meaning said .ordinal ≡ answerIn w → Claim (now (keys .entry)) (now (message .entry)) (now (tagfile .entry)) (now (marks .exit)) (namedIn w) said) ⌝ }
 {
     pack_report(scheme::report(keys, message, tagfile, marks))

@@ -3,7 +3,7 @@
 -- every item, none, or says "beyond" of an unchanged message.
 use mathlib.Core.Path.{_≡_, refl, sym, ap, ap₂, _∙_}
 use mathlib.Core.Bool.{Bool, true, false}
-use mathlib.Core.List.{List, _++_}
+use mathlib.Core.List.{List, [], _∷_, _++_}
 use mathlib.Core.Logic.{_↔_}
 use Prim.Native.Nat.{ℕ, _≤_, _<_}
 use native.Mathlib.Omega.{arith}
@@ -20,10 +20,10 @@ use Rattle.incidence.proofs.Booleans.{not-both}
 use Rattle.incidence.proofs.Counting.{Found, found}
 use Rattle.incidence.proofs.Sums.{rowSum-same, rowSum-change}
 use Rattle.sizes.specs.Sizes.{familyOf}
-use Rattle.files.specs.Refusals.{none}
-use Rattle.files.specs.Message.{itemCount, item, itemStart, itemSize, refuse3, refuse5}
+use Rattle.files.specs.Refusals.{none, unless, first}
+use Rattle.files.specs.Message.{itemCount, item, itemStart, itemSize, refuse3, refuse5, refuse8}
 use Rattle.files.specs.TagFile.{fileSize, codeOf, countOf, tagsIn, countFits, refuse6, refuse20}
-use Rattle.files.specs.Arguments.{refuse1, refuse7}
+use Rattle.files.specs.Arguments.{refuse1, refuse7, refuse9}
 use Rattle.files.proofs.Passing.{first-later, first-none, unless-true, given, and-true}
 use Rattle.keyed.specs.Keyed.{itemHash}
 use Rattle.tagging.specs.Tagging.{keysIn, hashes, tagSum, fileOf, tagFile}
@@ -132,6 +132,25 @@ module _ (keys : List ℕ) (b : Bytes keys) (h : length keys ≡ 48) (c n : ℕ)
       ∙ ap (λ (x : List ℕ). if F .on (F .rowOfTag k) j then (x ⊕ itemHash (K .item) j (items j)) ⊕ itemHash (K .item) j new else x) (sums-back K B c n fit items bytes k l u)
       ∙ row-afresh F (F .rowOfTag k) (F .on (F .rowOfTag k) j) refl
 
+  -- On an unaltered file, with the keys it was made with, Replace is not refused: whatever the old item, where both are short enough and the
+  -- lent buffer has room.
+  pub replace-passes : (old : List ℕ) (room : ℕ) → length old ≤ 1024 → length new ≤ 1024 → fileSize c ≤ room
+      → replaceRefusal keys (tagFile (keysIn keys) c n items) j old new room ≡ none
+  unfolding replaceRefusal refuse1 refuse8 refuse9 refuse7
+  replace-passes old room lo ln r =
+      let K = keysIn keys in
+      let B = key-blocks keys b h in
+      let f = tagFile K c n items in
+      let a = accepted K B c n fit items bytes in
+      let en = count-is K B c n fit items bytes in
+      let ec = ap fileSize (code-is K B c n fit items bytes) in
+      first-later (refuse1 (length keys)) _ (unless-true _ 1 0 (eq-eqb (length keys) 48 h))
+      ∙ first-later (refuse6 f) _ (a .0) ∙ first-later (refuse20 (K .seal) f) _ (a .1)
+      ∙ first-later (refuse8 (countOf f) j) _ (unless-true _ 8 0 (and-true _ _ (le-leb 1 j low) (le-leb j (countOf f) (omega arith))))
+      ∙ first-later (refuse9 (length old) 1) _ (unless-true _ 9 1 (le-leb (length old) 1024 lo))
+      ∙ first-later (refuse9 (length new) 2) _ (unless-true _ 9 2 (le-leb (length new) 1024 ln))
+      ∙ first-none (refuse7 (fileSize (codeOf f)) room) (unless-true _ 7 0 (le-leb (fileSize (codeOf f)) room (omega arith)))
+
   -- "On an unaltered sheet, with the keys it was made with, it equals tagging afresh when the old card is the one tagged."
   pub replace-afresh : (out : List ℕ) → replaceRefusal keys (tagFile (keysIn keys) c n items) j (items j) new (length out) ≡ none
       → replaceWrites keys (tagFile (keysIn keys) c n items) j (items j) new out ≡ tagFile (keysIn keys) c n (replacedItem items j new) ++ drop (fileSize c) out
@@ -143,6 +162,15 @@ module _ (keys : List ℕ) (b : Bytes keys) (h : length keys ≡ 48) (c n : ℕ)
       sym (given none (replaceRefusal keys f j (items j) new (length out)) (sym e) _ _ refl)
       ∙ ap₂ (λ (x y : ℕ). fileOf K x y (replacedSum K f j (items j) new) ++ drop (fileSize x) out) (code-is K B c n fit items bytes) (count-is K B c n fit items bytes)
       ∙ ap (λ (x : List ℕ). x ++ drop (fileSize c) out) (file-same K c n (replacedSum K f j (items j) new) (tagSum K c (replacedItem items j new) n) sums-replaced)
+
+-- "another old card goes unnoticed": of any two old items that are not too long, both are refused alike, or neither is
+pub old-unnoticed : (keys f : List ℕ) (j : ℕ) (old other new : List ℕ) (room : ℕ) → length old ≤ 1024 → length other ≤ 1024
+    → replaceRefusal keys f j old new room ≡ replaceRefusal keys f j other new room
+unfolding replaceRefusal refuse9
+old-unnoticed keys f j old other new room l o =
+    ap (λ (t : Bool). first (refuse1 (length keys) ∷ refuse6 f ∷ refuse20 (keysIn keys .seal) f ∷ refuse8 (countOf f) j ∷ unless t 9 1
+    ∷ refuse9 (length new) 2 ∷ refuse7 (fileSize (codeOf f)) room ∷ []))
+    (le-leb (length old) 1024 l ∙ sym (le-leb (length other) 1024 o))
 
 -- ---- what demand 3 rules out, of a report against the unaltered file of the old items
 

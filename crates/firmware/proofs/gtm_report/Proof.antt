@@ -1,31 +1,28 @@
 -- What the call says, packed, and demand 3 of it (Packing).
 use mathlib.Core.Path.{_∙_}
-use Rattle.firmware.proofs.Packing.{packed-same, claim-packed}
+use Rattle.firmware.proofs.Packing.{packed-same, report-read, claim-packed}
 use borrow.Author.Needs.{needs}
 use Rattle.firmware.proofs.gtm_report.Statement.{statement}
 use Rattle.firmware.proofs.gtm_report.Tie as tie
-
-report-requires : tie.Need-report-requires
-report-requires c κs = search needs
-
-pack-report-requires : tie.Need-pack-report-requires
-pack-report-requires c κs = search needs
-
-same-length : tie.Need-same-length
-same-length c = search needs
 
 returns : tie.Need-returns
 returns c =
     let t = c .before .before .before .report in
     let d = c .before .before .before .before .before .before .before .before .before in
-    let e = t .ensures in (
-      c .pack-report .ensures .0 ∙ packed-same _ _ _ _ _ _ _ _ (e .0) (e .1 .1 .0) (e .1 .1 .1 .0) (e .1 .1 .1 .1 .0),
+    let e = t .ensures in
+    let w = c .pack-report .ensures .0 in
+    let z = c .pack-report .ensures .1 in
+    let a = e .1 .1 in (
+      w ∙ packed-same _ _ _ _ _ _ _ _ (e .0) (a .0) (a .1 .0) (a .1 .1 .0),
       (
         e .1 .0,
-        claim-packed (d .args .keys .now) (d .args .message .now) (d .args .tagfile .now) (d .args .marks .now) _ (t .result .refused) (t .result .answer) (t .result .named) (t .result .rows) _
-            (e .0) (e .1 .1 .1 .0) (c .pack-report .ensures .0) (c .pack-report .ensures .1) (e .1 .1 .1 .1 .1),
+        (
+          report-read (d .args .keys .now) (d .args .message .now) (d .args .tagfile .now) (d .args .marks .now) _ _ _ _ _ (e .0) (a .0) (a .1 .0) (a .1 .1 .0) w z,
+          λ q. claim-packed (d .args .keys .now) (d .args .message .now) (d .args .tagfile .now) (d .args .marks .now) _ _ _ _ _ (e .0) (a .0) (a .1 .0) (a .1 .1 .0) w z q _
+              (a .1 .1 .1),
+        ),
       ),
     )
 
 pub gtm-report-spec : {M : Type 1} → statement M
-gtm-report-spec = tie.close (tie.spec report-requires pack-report-requires same-length returns)
+gtm-report-spec = tie.close (tie.spec (λ c κs. search needs) (λ c κs. search needs) (λ c. search needs) returns)
