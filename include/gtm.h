@@ -4,8 +4,8 @@
  * says which cards were altered, and a single card's share of the tags is replaced without reading the others.
  *
  * Any pointer that a length of 0 goes with may be null. Otherwise a pointer has to be valid for its length; nothing else is asked of
- * a caller: any bytes, lengths and numbers may be handed over. Buffers must not overlap. The functions keep nothing between calls, allocate nothing
- * and do not block.
+ * a caller: any bytes, lengths and numbers may be handed over. The buffer that a call writes must not overlap another; those that it only
+ * reads may lie in one another. The functions keep nothing between calls, allocate nothing and do not block.
  *
  * Each returns one number. gtm_number() of it is 0 when the call did its work, else the number of a refusal:
  *

@@ -7,7 +7,7 @@ use Rattle.cipher.specs.Double.{double}
 use Rattle.sizes.specs.Cases.{PlaneCases}
 
 pub record Starred : Type 0 where
-  -- the ten about planes and reports, from "Size 1: row 1 holds 2 3 5" to "Changed 1 2 3: only row 3 agrees"
+  -- the seven about planes and reports, from "Size 1: row 1 holds 2 3 5" to "Changed 1 2 3: only row 3 agrees"
   pub planes : PlaneCases
   -- "S-box of 53 is ed."
   pub sbox-of-53 : sbox 0x53 ≡ 0xed
