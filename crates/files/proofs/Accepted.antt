@@ -17,9 +17,10 @@ use Rattle.cipher.proofs.Numbers.{bigEndian-number, number-bigEndian}
 use Rattle.cipher.proofs.Laws.{cmac-length}
 use Rattle.sizes.specs.Sizes.{known, familyOf}
 use Rattle.sizes.proofs.Laws.{items-few}
+use Rattle.files.specs.declared.tagfile.Head.{Head}
 use Rattle.files.specs.Refusals.{none}
 use Rattle.files.specs.Message.{number16}
-use Rattle.files.specs.TagFile.{tagPrefix, header, body, sealed, fileSize, codeOf, countOf, tagsIn, bodyOf, macOf, countFits, refuse6, refuse20, Written}
+use Rattle.files.specs.TagFile.{tagPrefix, header, body, sealed, fileSize, codeOf, countOf, headOf, tagsIn, bodyOf, macOf, countFits, refuse6, refuse20, Formed, Written}
 use Rattle.files.proofs.Passing.{unless-true, unless-passes, and-left, and-right, and-true}
 
 -- what is behind k elements of the first n
@@ -30,13 +31,6 @@ drop-take (suc k) (suc n) [] = sym (take-nil (suc n - suc k))
 drop-take (suc k) (suc n) (x ∷ l) = let e : n - k ≡ suc n - suc k = omega arith in drop-take k n l ∙ ap (λ (m : ℕ). take m (drop k l)) e
 
 -- ---- accepted, so laid out and sealed
-
--- what 6 tells of a file that it does not refuse
-pub record Formed (s : List ℕ) : Type 0 where
-  pub long : 24 ≤ length s
-  pub letters : take 5 s ≡ tagPrefix
-  pub fits : countFits (codeOf s) (countOf s) ≡ true
-  pub size : length s ≡ fileSize (codeOf s)
 
 pub formed : (s : List ℕ) → refuse6 s .number ≡ 0 → Formed s
 unfolding refuse6
@@ -57,8 +51,8 @@ formed s h =
 
 module _ (s : List ℕ) (h : Bytes s) (F : Formed s) where
   -- the first eight bytes
-  front : take 8 s ≡ header (codeOf s) (countOf s)
-  unfolding header codeOf countOf number16
+  front : take 8 s ≡ header (headOf s)
+  unfolding header headOf codeOf countOf number16
   front =
       let l = F .long in
       let two : length (take 2 (drop 6 s)) ≡ 2 = simp (length-take, length-drop) (omega arith) in
@@ -68,7 +62,7 @@ module _ (s : List ℕ) (h : Bytes s) (F : Formed s) where
       ∙ ap (λ (t : List ℕ). tagPrefix ++ (getD s 5 0 ∷ t)) (sym n ∙ ap (λ (k : ℕ). bigEndian k (number (take 2 (drop 6 s)))) two)
 
   -- all before the MAC
-  whole-body : bodyOf s ≡ body (codeOf s) (countOf s) (tagsIn s)
+  whole-body : bodyOf s ≡ body (headOf s) (tagsIn s)
   unfolding bodyOf body tagsIn
   whole-body =
       let l = F .long in
@@ -78,14 +72,13 @@ module _ (s : List ℕ) (h : Bytes s) (F : Formed s) where
       (drop-take 8 (length s - 16) s ∙ ap (λ (k : ℕ). take k (drop 8 s)) e)
 
   pub accepted-written : (key : List ℕ) → refuse20 key s .number ≡ 0 → Written key s
-  unfolding refuse20 sealed macOf bodyOf tagsIn fileSize
+  unfolding refuse20 sealed macOf bodyOf tagsIn fileSize headOf
   accepted-written key q =
       let l = F .long in
       let z = F .size in
       let m = same-true (macOf s) (cmac key (bodyOf s)) (unless-passes (same (macOf s) (cmac key (bodyOf s))) 20 0 (omega arith) q) in
       record {
-        code = codeOf s;
-        count = countOf s;
+        head = headOf s;
         tags = tagsIn s;
         fits = F .fits;
         long = simp (length-take, length-drop) (omega arith);
@@ -95,49 +88,50 @@ module _ (s : List ℕ) (h : Bytes s) (F : Formed s) where
 
 -- ---- laid out and sealed, so accepted
 
-module _ (key : List ℕ) (hk : length key ≡ 16) (c n : ℕ) (tags : List ℕ) (fit : countFits c n ≡ true) (long : length tags ≡ 16 * familyOf c .tags) where
+module _ (key : List ℕ) (hk : length key ≡ 16) (h : Head) (tags : List ℕ) (fit : countFits (h .code) (h .count) ≡ true) (long : length tags ≡ 16 * familyOf (h .code) .tags) where
   file : List ℕ
-  file = sealed key (body c n tags)
+  file = sealed key (body h tags)
 
-  body-length : length (body c n tags) ≡ 8 + 16 * familyOf c .tags
+  body-length : length (body h tags) ≡ 8 + 16 * familyOf (h .code) .tags
   unfolding body header tagPrefix bigEndian
-  body-length = length-append (header c n) tags ∙ ap (λ (k : ℕ). 8 + k) long
+  body-length = length-append (header h) tags ∙ ap (λ (k : ℕ). 8 + k) long
 
-  file-length : length file ≡ fileSize c
+  file-length : length file ≡ fileSize (h .code)
   unfolding file sealed fileSize
   file-length =
       let b = body-length in
-      let m = cmac-length key hk (body c n tags) in
-      length-append (body c n tags) (cmac key (body c n tags)) ∙ omega arith
+      let m = cmac-length key hk (body h tags) in
+      length-append (body h tags) (cmac key (body h tags)) ∙ omega arith
 
   file-long : 24 ≤ length file
   unfolding fileSize
   file-long = omega (arith, file-length)
 
-  file-code : codeOf file ≡ c
+  file-code : codeOf file ≡ h .code
   unfolding file sealed body header tagPrefix codeOf
   file-code = refl
 
-  file-count : countOf file ≡ n
+  file-count : countOf file ≡ h .count
   unfolding file sealed body header tagPrefix countOf number16 bigEndian countFits
   file-count =
-      let u : n ≤ familyOf c .items = leb-true n (familyOf c .items) (and-right (leb 1 n) (leb n (familyOf c .items)) (and-right (known c) (leb 1 n && leb n (familyOf c .items)) fit)) in
-      number-bigEndian 2 n (omega (arith, items-few c))
+      let n = h .count in
+      let u : n ≤ familyOf (h .code) .items = leb-true n (familyOf (h .code) .items) (and-right (leb 1 n) (leb n (familyOf (h .code) .items)) (and-right (known (h .code)) (leb 1 n && leb n (familyOf (h .code) .items)) fit)) in
+      number-bigEndian 2 n (omega (arith, items-few (h .code)))
 
   -- what was laid out is read back
-  pub code-back : codeOf (sealed key (body c n tags)) ≡ c
+  pub code-back : codeOf (sealed key (body h tags)) ≡ h .code
   unfolding file
   code-back = file-code
 
-  pub count-back : countOf (sealed key (body c n tags)) ≡ n
+  pub count-back : countOf (sealed key (body h tags)) ≡ h .count
   unfolding file
   count-back = file-count
 
-  pub tags-back : tagsIn (sealed key (body c n tags)) ≡ tags
+  pub tags-back : tagsIn (sealed key (body h tags)) ≡ tags
   unfolding file sealed body header tagPrefix bigEndian tagsIn fileSize
   tags-back =
-      let e : length file - 24 ≡ 16 * familyOf c .tags = omega (arith, file-length) in
-      ap (λ (k : ℕ). take k (tags ++ cmac key (body c n tags))) e ∙ take-at tags (cmac key (body c n tags)) (16 * familyOf c .tags) long
+      let e : length file - 24 ≡ 16 * familyOf (h .code) .tags = omega (arith, file-length) in
+      ap (λ (k : ℕ). take k (tags ++ cmac key (body h tags))) e ∙ take-at tags (cmac key (body h tags)) (16 * familyOf (h .code) .tags) long
 
   file-letters : take 5 file ≡ tagPrefix
   unfolding file sealed body header tagPrefix
@@ -155,16 +149,16 @@ module _ (key : List ℕ) (hk : length key ≡ 16) (c n : ℕ) (tags : List ℕ)
   file-sealed =
       let b = body-length in
       let e = file-length in
-      let k : length (body c n tags) ≡ length file - 16 = omega arith in
+      let k : length (body h tags) ≡ length file - 16 = omega arith in
       unless-true _ 20 0
       (same-eq (macOf file) (cmac key (bodyOf file))
-      (drop-at (body c n tags) (cmac key (body c n tags)) (length file - 16) k
-      ∙ ap (cmac key) (sym (take-at (body c n tags) (cmac key (body c n tags)) (length file - 16) k))))
+      (drop-at (body h tags) (cmac key (body h tags)) (length file - 16) k
+      ∙ ap (cmac key) (sym (take-at (body h tags) (cmac key (body h tags)) (length file - 16) k))))
 
 pub written-accepted : (key s : List ℕ) → length key ≡ 16 → Written key s
     → (refuse6 s ≡ none) × (refuse20 key s ≡ none)
 unfolding file
 written-accepted key s hk W = (
-  ap refuse6 (W .so) ∙ file-formed key hk (W .code) (W .count) (W .tags) (W .fits) (W .long),
-  ap (refuse20 key) (W .so) ∙ file-sealed key hk (W .code) (W .count) (W .tags) (W .fits) (W .long),
+  ap refuse6 (W .so) ∙ file-formed key hk (W .head) (W .tags) (W .fits) (W .long),
+  ap (refuse20 key) (W .so) ∙ file-sealed key hk (W .head) (W .tags) (W .fits) (W .long),
 )

@@ -202,47 +202,6 @@ plain5 s =
 
 -- ---- Fetch
 
-module _ (s : List ℕ) (j : ℕ) (head : Refusal) (eh : head ≡ refuse3 s) where
-  pub fetch-header : (head .number ≡ 0 → ⊥) → head ≡ fetchRefusal s j
-  unfolding fetchRefusal
-  fetch-header h = sym (ap (λ (r : Refusal). first (r ∷ refuse5 s ∷ refuse8 (itemCount s) j ∷ [])) (sym eh) ∙ first-here head _ h)
-
-  pub header-fine : head .number ≡ 0 → (7 ≤ length s) × (length s ≤ 65536)
-  header-fine h = headed s (number-of head (refuse3 s) eh h)
-
-  module _ (fine : head .number ≡ 0) (items : Refusal) (ei : items ≡ refuse5 s) where
-    past-header : fetchRefusal s j ≡ first (refuse5 s ∷ refuse8 (itemCount s) j ∷ [])
-    unfolding fetchRefusal
-    past-header = first-later (refuse3 s) _ (plain3 s (number-of head (refuse3 s) eh fine))
-
-    pub fetch-items : (items .number ≡ 0 → ⊥) → items ≡ fetchRefusal s j
-    fetch-items h = sym (past-header ∙ ap (λ (r : Refusal). first (r ∷ refuse8 (itemCount s) j ∷ [])) (sym ei) ∙ first-here items _ h)
-
-    module _ (whole : items .number ≡ 0) where
-      past-items : fetchRefusal s j ≡ first (refuse8 (itemCount s) j ∷ [])
-      past-items = past-header ∙ first-later (refuse5 s) _ (plain5 s (number-of items (refuse5 s) ei whole))
-
-      pub fetch-zero : j ≡ 0 → refusal 8 0 ≡ fetchRefusal s j
-      unfolding refuse8
-      fetch-zero z =
-          let l : j < 1 = omega arith in
-          sym (past-items ∙ ap (λ (r : Refusal). first (r ∷ [])) (unless-false _ 8 0 (and-false-l _ (leb j (itemCount s)) (lt-leb 1 j l)))
-          ∙ first-here (refusal 8 0) [] (λ (e : 8 ≡ 0). omega arith))
-
-      pub fetch-above : (n : ℕ) → n ≡ itemCount s → n < j → refusal 8 0 ≡ fetchRefusal s j
-      unfolding refuse8
-      fetch-above n c h =
-          let l : itemCount s < j = omega arith in
-          sym (past-items ∙ ap (λ (r : Refusal). first (r ∷ [])) (unless-false _ 8 0 (and-false-r (leb 1 j) _ (lt-leb j (itemCount s) l)))
-          ∙ first-here (refusal 8 0) [] (λ (e : 8 ≡ 0). omega arith))
-
-      pub fetch-none : (n : ℕ) → n ≡ itemCount s → (j ≡ 0 → ⊥) → j ≤ n → none ≡ fetchRefusal s j
-      unfolding refuse8 first
-      fetch-none n c z h =
-          let a : 1 ≤ j = omega arith in
-          let b : j ≤ itemCount s = omega arith in
-          sym (past-items ∙ first-later (refuse8 (itemCount s) j) [] (unless-true _ 8 0 (and-true _ _ (le-leb 1 j a) (le-leb j (itemCount s) b))))
-
 -- a file and a number that Fetch does not refuse
 pub record Fetchable (s : List ℕ) (j : ℕ) : Type 0 where
   pub long : 7 ≤ length s
@@ -254,8 +213,8 @@ pub record Fetchable (s : List ℕ) (j : ℕ) : Type 0 where
 pub fetchable : (s : List ℕ) (j : ℕ) (r : Refusal) → r ≡ fetchRefusal s j → r .number ≡ 0 → Fetchable s j
 unfolding fetchRefusal refuse8
 fetchable s j r e h =
-    let a = rest-passes (refuse3 s) (refuse5 s ∷ refuse8 (itemCount s) j ∷ []) (number-of r _ e h) in
-    let b = rest-passes (refuse5 s) (refuse8 (itemCount s) j ∷ []) (a .1) in
+    let a = rest-passes _ _ (number-of r _ e h) in
+    let b = rest-passes _ _ (a .1) in
     let t = unless-passes (leb 1 j && leb j (itemCount s)) 8 0 (omega arith) (rest-passes (refuse8 (itemCount s) j) [] (b .1) .0) in
     let l = headed s (a .0) in
     record {

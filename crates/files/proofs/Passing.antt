@@ -1,7 +1,7 @@
 -- Refusals: what passes is none, and the first of a list.
 use mathlib.Core.Path.{_≡_, refl, sym, ap, ap₂, _∙_}
 use mathlib.Core.Bool.{Bool, true, false, _&&_}
-use mathlib.Core.List.{List, [], _∷_}
+use mathlib.Core.List.{List, [], _∷_, _++_}
 use Prim.Native.Nat.{ℕ, _<_}
 use native.Mathlib.Omega.{arith}
 use lib.Dec.{eqb}
@@ -80,6 +80,60 @@ stop r q rest e h = e ∙ sym (first-here q rest (λ z. h (number-of q r (sym e)
 -- one that passes leaves the rest
 pub skip : (r q : Refusal) (rest : List Refusal) → r ≡ q → r .number ≡ 0 → first (q ∷ rest) ≡ first rest
 skip r q rest e h = first-past q rest (number-of r q e h)
+
+-- ---- runs of checks in a list
+
+pub here : (r : Refusal) (rest : List Refusal) → (r .number ≡ 0 → ⊥) → r ≡ first (r ∷ rest)
+here r rest h = sym (first-here r rest h)
+
+pub past : (x r : Refusal) (rest : List Refusal) → r .number ≡ 0 → x ≡ first rest → x ≡ first (r ∷ rest)
+past x r rest h e = e ∙ sym (first-past r rest h)
+
+pub end : none ≡ first []
+unfolding first
+end = refl
+
+-- the first of a list, then the rest
+flat : (l rest : List Refusal) → first (first l ∷ rest) ≡ first (l ++ rest)
+unfolding first
+flat [] rest = refl
+flat (r ∷ l) rest = go (passes r) refl (flat l rest)
+  where
+    go : (b : Bool) → passes r ≡ b → first (first l ∷ rest) ≡ first (l ++ rest)
+        → first ((if b then first l else r) ∷ rest) ≡ (if b then first (l ++ rest) else r)
+    go true e ih = ih
+    go false e ih = first-here r rest (eqb-false (r .number) 0 e)
+
+pub run2 : (a b : Refusal) (rest : List Refusal) → first (a ∷ b ∷ rest) ≡ first (first (a ∷ b ∷ []) ∷ rest)
+run2 a b rest = sym (flat (a ∷ b ∷ []) rest)
+
+pub run3 : (a b d : Refusal) (rest : List Refusal) → first (a ∷ b ∷ d ∷ rest) ≡ first (first (a ∷ b ∷ d ∷ []) ∷ rest)
+run3 a b d rest = sym (flat (a ∷ b ∷ d ∷ []) rest)
+
+-- two lists that are equal entry by entry: l is what the code has, m what the contract names
+pub data Same : List Refusal → List Refusal → Type 0 where
+  same-nil : Same [] []
+  same-cons : {a b : Refusal} {l m : List Refusal} → a ≡ b → Same l m → Same (a ∷ l) (b ∷ m)
+
+same-list : {l m : List Refusal} → Same l m → l ≡ m
+same-list same-nil = refl
+same-list (same-cons e s) = ap₂ _∷_ e (same-list s)
+
+pub same-first : (r : Refusal) (l m : List Refusal) → r ≡ first l → Same l m → r ≡ first m
+same-first r l m e s = e ∙ ap first (same-list s)
+
+-- r is the first of the checks by what each of them ensures: `search listed depth 12`
+pub ruleset listed = (same-first, same-nil, same-cons)
+
+-- where a list passes, so does each of its first three entries
+pub passes1 : (r a q : Refusal) (rest : List Refusal) → a ≡ q → r ≡ first (a ∷ rest) → r .number ≡ 0 → q .number ≡ 0
+passes1 r a q rest f e h = number-of a q f (rest-passes a rest (number-of r _ e h) .0)
+
+pub passes2 : (r a b q : Refusal) (rest : List Refusal) → b ≡ q → r ≡ first (a ∷ b ∷ rest) → r .number ≡ 0 → q .number ≡ 0
+passes2 r a b q rest f e h = passes1 (first (b ∷ rest)) b q rest f refl (rest-passes a (b ∷ rest) (number-of r _ e h) .1)
+
+pub passes3 : (r a b d q : Refusal) (rest : List Refusal) → d ≡ q → r ≡ first (a ∷ b ∷ d ∷ rest) → r .number ≡ 0 → q .number ≡ 0
+passes3 r a b d q rest f e h = passes2 (first (b ∷ d ∷ rest)) b d q rest f refl (rest-passes a (b ∷ d ∷ rest) (number-of r _ e h) .1)
 
 -- what a call leaves where it is done, and where it is refused
 module _ {A : Type 0} (r q : Refusal) (e : r ≡ q) (done left : A) where

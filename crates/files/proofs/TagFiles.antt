@@ -12,7 +12,7 @@ use Rattle.cipher.specs.Block.{same}
 use Rattle.cipher.specs.Cmac.{cmac}
 use Rattle.cipher.proofs.Xor.{same-eq}
 use Rattle.sizes.specs.Sizes.{known, familyOf}
-use Rattle.files.specs.Refusals.{refusal, none}
+use Rattle.files.specs.Refusals.{refusal, unless}
 use Rattle.files.specs.TagFile.{tagPrefix, codeOf, countOf, countFits, fileSize, macOf, bodyOf, refuse6, refuse20}
 use Rattle.files.proofs.Passing.{unless-true, unless-false, and-true, and-false-l, and-false-r}
 use Rattle.files.proofs.Messages.{different}
@@ -45,30 +45,18 @@ module _ (s : List ℕ) where
   unfolding refuse6
   tag-letters t f e = sym (unless-false _ 6 0 (and-false-l _ _ (and-false-r (leb 24 (length s)) _ (different t (take 5 s) tagPrefix f e))))
 
-  module _ (c n : ℕ) (ec : c ≡ codeOf s) (en : n ≡ countOf s) where
-    pub tag-count : (t : Bool) → t ≡ countFits c n → t ≡ false → refusal 6 0 ≡ refuse6 s
-    unfolding refuse6
-    tag-count t e h =
-        sym (unless-false _ 6 0 (and-false-r (leb 24 (length s) && same (take 5 s) tagPrefix) _
-        (and-false-l _ (eqb (length s) (fileSize (codeOf s))) (sym (ap₂ countFits ec en) ∙ sym e ∙ h))))
+  pub tag-rest : (t : Bool) → 24 ≤ length s → take 5 s ≡ tagPrefix → t ≡ (countFits (codeOf s) (countOf s) && eqb (length s) (fileSize (codeOf s)))
+      → unless t 6 0 ≡ refuse6 s
+  unfolding refuse6
+  tag-rest t l p e =
+      ap₂ (λ (x y : Bool). unless (x && y) 6 0) (sym (and-true _ _ (le-leb 24 (length s) l) (same-eq (take 5 s) tagPrefix p))) e
 
-    module _ (m : ℕ) (em : m ≡ familyOf c .tags) where
-      size-is : 24 + 16 * m ≡ fileSize (codeOf s)
-      unfolding fileSize
-      size-is = ap (λ (k : ℕ). 24 + 16 * k) (em ∙ ap (λ (k : ℕ). familyOf k .tags) ec)
+-- what is tested of the size code, the count and the length
+pub both-left : (a b t : Bool) → a ≡ t → t ≡ false → t ≡ (a && b)
+both-left a b t e h = h ∙ sym (and-false-l a b (e ∙ h))
 
-      pub tag-length : (length s ≡ 24 + 16 * m → ⊥) → refusal 6 0 ≡ refuse6 s
-      unfolding refuse6
-      tag-length h =
-          sym (unless-false _ 6 0 (and-false-r (leb 24 (length s) && same (take 5 s) tagPrefix) _
-          (and-false-r (countFits (codeOf s) (countOf s)) _ (ne-eqb _ _ (λ (q : length s ≡ fileSize (codeOf s)). h (q ∙ sym size-is))))))
-
-      pub tag-fine : (t : Bool) → t ≡ countFits c n → t ≡ true → 24 ≤ length s → take 5 s ≡ tagPrefix → length s ≡ 24 + 16 * m → none ≡ refuse6 s
-      unfolding refuse6
-      tag-fine t e h l p q =
-          sym (unless-true _ 6 0
-          (and-true _ _ (and-true _ _ (le-leb 24 (length s) l) (same-eq (take 5 s) tagPrefix p))
-          (and-true _ _ (sym (ap₂ countFits ec en) ∙ sym e ∙ h) (eq-eqb _ _ (q ∙ size-is)))))
+pub both-right : (a b t : Bool) → a ≡ t → t ≡ true → b ≡ (a && b)
+both-right a b t e h = sym (ap (λ (x : Bool). x && b) (e ∙ h))
 
 -- ---- 20
 
@@ -82,10 +70,6 @@ module _ (key s mac a b : List ℕ) (end : ℕ) (t : Bool) (ee : end ≡ length 
       (ea ∙ ap (λ (n : ℕ). take 16 (drop n s)) ee ∙ take-all 16 (drop (length s - 16) s) (simp length-drop (omega arith)))
       (em ∙ ap (cmac key) (eb ∙ ap (λ (n : ℕ). take n s) z))
 
-  pub mac-right : t ≡ true → none ≡ refuse20 key s
+  pub mac-is : unless t 20 0 ≡ refuse20 key s
   unfolding refuse20
-  mac-right h = sym (unless-true _ 20 0 (sym compared ∙ h))
-
-  pub mac-wrong : t ≡ false → refusal 20 0 ≡ refuse20 key s
-  unfolding refuse20
-  mac-wrong h = sym (unless-false _ 20 0 (sym compared ∙ h))
+  mac-is = ap (λ (x : Bool). unless x 20 0) compared

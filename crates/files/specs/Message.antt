@@ -3,7 +3,7 @@
 use mathlib.Core.Path.{_≡_}
 use mathlib.Core.Bool.{Bool, _&&_}
 use mathlib.Core.List.{List, [], _∷_}
-use Prim.Native.Nat.{ℕ, zero, suc, _+_, _-_}
+use Prim.Native.Nat.{ℕ, zero, suc, _+_, _-_, _≤_}
 use lib.Dec.{eqb, leb}
 use lib.ListN.{length, take, drop}
 use denote.Ref.{RefT, now, ptr}
@@ -58,6 +58,13 @@ refuseItems s (suc k) = first (refuseItems s k ∷ unless (itemFits s (behind s 
 -- count+1 for bytes left over."
 unfoldable pub refuse5 : List ℕ → Refusal
 refuse5 s = first (refuseItems s (itemCount s) ∷ unless (eqb (behind s (itemCount s)) (length s)) 5 (itemCount s + 1) ∷ [])
+
+-- a file that neither refuses
+pub record Sound (s : List ℕ) : Type 0 where
+  pub head : refuse3 s ≡ none
+  pub whole : refuse5 s ≡ none
+  pub long : 7 ≤ length s
+  pub short : length s ≤ 65536
 
 -- 8: "card number 0 or above count"
 unfoldable pub refuse8 : ℕ → ℕ → Refusal

@@ -3,7 +3,7 @@
 use mathlib.Core.Path.{_≡_}
 use mathlib.Core.Bool.{Bool, true, _&&_}
 use mathlib.Core.List.{List, [], _∷_, _++_}
-use Prim.Native.Nat.{ℕ, _+_, _-_, _*_}
+use Prim.Native.Nat.{ℕ, _+_, _-_, _*_, _≤_}
 use lib.Dec.{eqb, leb}
 use lib.ListN.{length, getD, take, drop}
 use Rattle.cipher.specs.Block.{Bytes, same}
@@ -11,6 +11,7 @@ use Rattle.cipher.specs.Number.{bigEndian}
 use Rattle.cipher.specs.Cmac.{cmac}
 use Rattle.sizes.specs.Sizes.{known, familyOf}
 use Rattle.files.specs.declared.Refusal.{Refusal}
+use Rattle.files.specs.declared.tagfile.Head.{Head}
 use Rattle.files.specs.Refusals.{unless}
 use Rattle.files.specs.Message.{number16}
 
@@ -20,13 +21,17 @@ use Rattle.files.specs.Message.{number16}
 unfoldable pub tagPrefix : List ℕ
 tagPrefix = 0x54 ∷ 0x42 ∷ 0x54 ∷ 0 ∷ 1 ∷ []
 
--- the eight bytes before the tags
-unfoldable pub header : ℕ → ℕ → List ℕ
-header c n = tagPrefix ++ (c ∷ bigEndian 2 n)
+-- what a file says before its tags: size code c and count n
+abbrev pub headFor : ℕ → ℕ → Head
+headFor c n = record { code = c; count = n }
 
--- everything before the MAC, for size code c, count n and the tags one after another
-unfoldable pub body : ℕ → ℕ → List ℕ → List ℕ
-body c n tags = header c n ++ tags
+-- the eight bytes before the tags
+unfoldable pub header : Head → List ℕ
+header h = tagPrefix ++ (h .code ∷ bigEndian 2 (h .count))
+
+-- everything before the MAC, with the tags one after another
+unfoldable pub body : Head → List ℕ → List ℕ
+body h tags = header h ++ tags
 
 -- with the MAC (document 01: seal) under the seal key
 unfoldable pub sealed : List ℕ → List ℕ → List ℕ
@@ -43,6 +48,9 @@ codeOf s = getD s 5 0
 
 unfoldable pub countOf : List ℕ → ℕ
 countOf s = number16 s 6
+
+unfoldable pub headOf : List ℕ → Head
+headOf s = headFor (codeOf s) (countOf s)
 
 -- the tags one after another, and all that the MAC is of
 unfoldable pub tagsIn : List ℕ → List ℕ
@@ -66,16 +74,22 @@ refuse6 s =
     unless ((leb 24 (length s) && same (take 5 s) tagPrefix)
     && (countFits (codeOf s) (countOf s) && eqb (length s) (fileSize (codeOf s)))) 6 0
 
+-- a file that 6 does not refuse
+pub record Formed (s : List ℕ) : Type 0 where
+  pub long : 24 ≤ length s
+  pub letters : take 5 s ≡ tagPrefix
+  pub fits : countFits (codeOf s) (countOf s) ≡ true
+  pub size : length s ≡ fileSize (codeOf s)
+
 -- 20: "seal differs"
 unfoldable pub refuse20 : List ℕ → List ℕ → Refusal
 refuse20 key s = unless (same (macOf s) (cmac key (bodyOf s))) 20 0
 
 -- demand 2: a file that the writer lays out and seals for some size code, count and tags
 pub record Written (key s : List ℕ) : Type 0 where
-  pub code : ℕ
-  pub count : ℕ
+  pub head : Head
   pub tags : List ℕ
-  pub fits : countFits code count ≡ true
-  pub long : length tags ≡ 16 * familyOf code .tags
+  pub fits : countFits (head .code) (head .count) ≡ true
+  pub long : length tags ≡ 16 * familyOf (head .code) .tags
   pub bytes : Bytes tags
-  pub so : s ≡ sealed key (body code count tags)
+  pub so : s ≡ sealed key (body head tags)

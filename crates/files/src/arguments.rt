@@ -1,24 +1,12 @@
 // What is refused of all else that a caller hands over: keys, size code, count, item number, an item, and room in a lent buffer.
 use crate::Refusal;
+use crate::message;
+use crate::refusals::unless;
 ghost use mathlib.Core.Path.{_≡_};
 ghost use lib.ListN.{length};
 ghost use Rattle.incidence.specs.Count.{inside};
-ghost use Rattle.files.specs.Refusals.{unless};
 ghost use Rattle.files.specs.Message.{refuse8};
 ghost use Rattle.files.specs.Arguments.{refuse1, refuse2, refuse4, refuse7, refuse9};
-
-// No refusal where the test holds, else the one with this number and place.
-pub fn unless(ok: bool, number: u8, place: usize) -> Refusal
-    ensures { λ r. ⌜ r ≡ unless ok number place ⌝ }
-{
-    if ok {
-        return Refusal {
-            number: 0,
-            place: 0,
-        };
-    }
-    Refusal { number, place }
-}
 
 // Whether k is one of the numbers 1 to n.
 fn inside(n: u64, k: u64) -> bool
@@ -66,5 +54,5 @@ pub fn check_number(n: usize, j: u64) -> Refusal
 pub fn check_item(item: &[u8], place: usize) -> Refusal
     ensures { λ r. ⌜ r ≡ refuse9 (length (now (item .entry))) place ⌝ }
 {
-    unless(item.len() <= 1024, 9, place)
+    unless(item.len() <= message::ITEM_MOST, 9, place)
 }

@@ -1,11 +1,24 @@
 // The message file (document 01: shelf).
 use crate::Refusal;
+use crate::arguments;
+use crate::refusals::first3;
 use cipher::block;
 ghost use mathlib.Core.Path.{_≡_};
 ghost use Prim.Native.Nat.{_+_, _≤_, _<_};
 ghost use lib.ListN.{length};
 ghost use Rattle.files.specs.Refusals.{none};
-ghost use Rattle.files.specs.Message.{number16, itemCount, behind, itemFits, refuse3, refuse5, fetchRefusal, fetchStart, fetchSize, PartOf};
+ghost use Rattle.files.specs.Message.{number16, itemCount, behind, itemFits, refuse3, refuse5, refuse8, fetchRefusal, fetchStart, fetchSize, PartOf};
+ghost use Rattle.files.specs.Arguments.{refuse4};
+
+// Where the count stands, behind letters and version, and where the first item's length does.
+const COUNT_AT: usize = 5;
+
+const ITEMS_AT: usize = 7;
+
+// The most bytes that a file and an item may have.
+pub const MOST: usize = 65536;
+
+pub const ITEM_MOST: usize = 1024;
 
 // The 2-byte number at a place.
 pub fn number16(s: &[u8], at: usize) -> usize
@@ -15,23 +28,31 @@ pub fn number16(s: &[u8], at: usize) -> usize
     block::from_be16(s[at], s[at + 1]) as usize
 }
 
+// The count that a file says.
+pub fn item_count(s: &[u8]) -> usize
+    requires { ⌜ 7 ≤ length (now s) ⌝ }
+    ensures { λ r. ⌜ (r ≡ itemCount (now (s .entry))) × (r < 65536) ⌝ }
+{
+    number16(s, COUNT_AT)
+}
+
 // Refusal 3, or none.
 pub fn check_header(s: &[u8]) -> Refusal
     ensures { λ r. ⌜ r ≡ refuse3 (now (s .entry)) ⌝ }
 {
-    if s.len() < 7 {
+    if s.len() < ITEMS_AT {
         return Refusal {
             number: 3,
             place: 0,
         };
     }
-    if 65536 < s.len() {
+    if MOST < s.len() {
         return Refusal {
             number: 3,
             place: 0,
         };
     }
-    if check::same(&s[0..5], b"TBS\x00\x01") {
+    if check::same(&s[0..COUNT_AT], b"TBS\x00\x01") {
         return Refusal {
             number: 0,
             place: 0,
@@ -54,7 +75,10 @@ impl Cursor {
     pub fn first() -> Cursor
         ensures { λ r. ⌜ (r .at ≡ 7) × (r .passed ≡ 0) ⌝ }
     {
-        Cursor { at: 7, passed: 0 }
+        Cursor {
+            at: ITEMS_AT,
+            passed: 0,
+        }
     }
 
     // Whether the next item and its length lie in the file, and the length is at most 1,024.
@@ -67,7 +91,7 @@ impl Cursor {
             return false;
         }
         let n = number16(s, at);
-        if 1024 < n {
+        if ITEM_MOST < n {
             return false;
         }
         at + 2 + n <= s.len()
@@ -86,12 +110,12 @@ impl Cursor {
     }
 }
 
-// Refusal 5, or none, of a file that is not refused by 3.
+// Refusal 5, or none.
 pub fn check_items(s: &[u8]) -> Refusal
-    requires { ⌜ (7 ≤ length (now s)) × (length (now s) ≤ 65536) ⌝ }
+    requires { ⌜ refuse3 (now s) .number ≡ 0 ⌝ }
     ensures { λ r. ⌜ r ≡ refuse5 (now (s .entry)) ⌝ }
 {
-    let n = number16(s, 5);
+    let n = item_count(s);
     let mut c = Cursor::first();
     while c.passed < n {
         if c.fits(s) {
@@ -115,34 +139,31 @@ pub fn check_items(s: &[u8]) -> Refusal
     }
 }
 
+// Refusal 4, or none, of the count that a file says.
+pub fn check_count(code: u64, s: &[u8]) -> Refusal
+    requires { ⌜ refuse3 (now s) .number ≡ 0 ⌝ }
+    ensures { λ r. ⌜ r ≡ refuse4 code (itemCount (now (s .entry))) ⌝ }
+{
+    arguments::check_count(code, item_count(s) as u64)
+}
+
+// Refusal 8, or none, of an item number.
+fn check_number(s: &[u8], j: u64) -> Refusal
+    requires { ⌜ refuse3 (now s) .number ≡ 0 ⌝ }
+    ensures { λ r. ⌜ r ≡ refuse8 (itemCount (now (s .entry))) j ⌝ }
+{
+    arguments::check_number(item_count(s), j)
+}
+
 // Fetch's companion: its refusal (3, 5, 8), or none.
 pub fn fetch_refusal(s: &[u8], j: u64) -> Refusal
     ensures { λ r. ⌜ r ≡ fetchRefusal (now (s .entry)) j ⌝ }
 {
-    let head = check_header(s);
-    if head.number != 0 {
-        return head;
+    let r = check_header(s);
+    if r.number != 0 {
+        return r;
     }
-    let items = check_items(s);
-    if items.number != 0 {
-        return items;
-    }
-    if j == 0 {
-        return Refusal {
-            number: 8,
-            place: 0,
-        };
-    }
-    if (number16(s, 5) as u64) < j {
-        return Refusal {
-            number: 8,
-            place: 0,
-        };
-    }
-    Refusal {
-        number: 0,
-        place: 0,
-    }
+    first3(r, check_items(s), check_number(s, j))
 }
 
 // The place behind the first k items of a file that is not refused.

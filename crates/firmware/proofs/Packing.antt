@@ -19,9 +19,11 @@ use Rattle.files.specs.Message.{itemCount}
 use Rattle.files.specs.TagFile.{codeOf}
 use Rattle.tagging.specs.Tagging.{keysIn}
 use Rattle.files.proofs.Passing.{given, kept}
-use Rattle.scheme.specs.Calls.{reportRefusal, agrees, reportAnswer, reportNamed, reportRows}
+use Rattle.checks.specs.Refused.{reportRefusal}
+use Rattle.scheme.specs.Calls.{agrees, reportAnswer, reportNamed, reportRows}
 use Rattle.scheme.specs.Claim.{Claim}
-use Rattle.scheme.proofs.Checking.{Reportable, reportable, file-count}
+use Rattle.checks.specs.Passed.{Reportable}
+use Rattle.checks.proofs.Checking.{reportable, file-count}
 use Rattle.firmware.specs.Packed.{packed, packedYes, packedReport, numberIn, placeIn, yesIn, answerIn, namedIn, rowsIn, ReadsReport}
 
 -- ---- refusals

@@ -17,7 +17,7 @@ use Rattle.files.specs.Message.{number16, prefix, itemCount, behind, itemFits, 
 use Rattle.files.specs.TagFile.{tagPrefix, fileSize, codeOf, countOf, bodyOf, macOf, countFits, refuse6, refuse20}
 use Rattle.files.specs.Arguments.{refuse1, refuse2, refuse4, refuse7, refuse9}
 use Rattle.tagging.specs.Tagging.{keysIn}
-use Rattle.scheme.specs.Calls.{refuse21, tagRefusal, verifyRefusal, reportRefusal, replaceRefusal}
+use Rattle.checks.specs.Refused.{refuse21, tagRefusal, verifyRefusal, reportRefusal, replaceRefusal}
 
 -- ---- places
 

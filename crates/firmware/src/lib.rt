@@ -8,7 +8,8 @@ ghost use mathlib.Core.Path.{_≡_};
 ghost use lib.ListN.{length};
 ghost use Rattle.incidence.specs.Report.{meaning};
 ghost use Rattle.incidence.specs.declared.Answer.{Answer};
-ghost use Rattle.scheme.specs.Calls.{tagRefusal, tagWrites, verifyRefusal, verifyYes, reportRefusal, reportWrites, reportAnswer, reportNamed, reportRows, replaceRefusal, replaceWrites};
+ghost use Rattle.checks.specs.Refused.{tagRefusal, verifyRefusal, reportRefusal, replaceRefusal};
+ghost use Rattle.scheme.specs.Calls.{tagWrites, verifyYes, reportWrites, reportAnswer, reportNamed, reportRows, replaceWrites};
 ghost use Rattle.scheme.specs.Claim.{Claim};
 ghost use Rattle.firmware.specs.Packed.{packed, packedYes, packedReport, numberIn, answerIn, namedIn, ReadsReport};
 

@@ -13,11 +13,12 @@ use Rattle.sizes.specs.Sizes.{familyOf}
 use Rattle.sizes.proofs.Laws.{items-few}
 use Rattle.files.specs.Refusals.{none}
 use Rattle.files.specs.Message.{itemCount, item, refuse3, refuse5}
-use Rattle.files.specs.TagFile.{countFits}
+use Rattle.files.specs.TagFile.{headFor, countFits}
 use Rattle.files.proofs.Passing.{and-true, given}
 use Rattle.tagging.specs.Tagging.{keysIn, tagFile}
-use Rattle.scheme.specs.Calls.{tagRefusal, reportRefusal, reportAnswer, reportNamed, reportRows, reportWrites}
-use Rattle.scheme.proofs.Checking.{taggable, reportable}
+use Rattle.checks.specs.Refused.{tagRefusal, reportRefusal}
+use Rattle.scheme.specs.Calls.{reportAnswer, reportNamed, reportRows, reportWrites}
+use Rattle.checks.proofs.Checking.{taggable, reportable}
 use Rattle.scheme.proofs.Guarantees.{item-bytes, report-passes}
 use Rattle.scheme.proofs.Claiming.{claim}
 use Rattle.printing.specs.Text.{ascii}
@@ -40,7 +41,7 @@ module _ (input : List ℕ) (bytes : Bytes input) where
   second = secondMessage input
 
   abbrev file : List ℕ
-  file = tagFile (keysIn keys) code (itemCount first) (item first)
+  file = tagFile (keysIn keys) (headFor code (itemCount first)) (item first)
 
   keys-bytes : Bytes keys
   unfolding keyBytes
@@ -66,8 +67,8 @@ module _ (input : List ℕ) (bytes : Bytes input) where
         let i = items-few code in
         omega (arith, h, i, same)
 
-    file-so : file ≡ tagFile (keysIn keys) code (itemCount second) (item first)
-    file-so = ap (λ (n : ℕ). tagFile (keysIn keys) code n (item first)) (sym same)
+    file-so : file ≡ tagFile (keysIn keys) (headFor code (itemCount second)) (item first)
+    file-so = ap (λ (n : ℕ). tagFile (keysIn keys) (headFor code n) (item first)) (sym same)
 
     passes-report : reportRefusal keys second file 273 ≡ none
     passes-report =

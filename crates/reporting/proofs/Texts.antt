@@ -12,12 +12,13 @@ use Rattle.incidence.specs.declared.Answer.{Answer}
 use Rattle.sizes.specs.Sizes.{familyOf}
 use Rattle.files.specs.declared.Refusal.{Refusal}
 use Rattle.files.specs.Message.{number16, itemCount, item}
-use Rattle.files.specs.TagFile.{fileSize}
+use Rattle.files.specs.TagFile.{headFor, fileSize}
 use Rattle.files.proofs.Passing.{given, kept}
 use Rattle.tagging.specs.Tagging.{keysIn, tagSum, tagFile}
 use Rattle.tagging.proofs.Writing.{file-length}
-use Rattle.scheme.specs.Calls.{tagRefusal, tagWrites, reportRefusal, reportAnswer, reportNamed, reportRows, reportWrites}
-use Rattle.scheme.proofs.Checking.{taggable}
+use Rattle.checks.specs.Refused.{tagRefusal, reportRefusal}
+use Rattle.scheme.specs.Calls.{tagWrites, reportAnswer, reportNamed, reportRows, reportWrites}
+use Rattle.checks.proofs.Checking.{taggable}
 use Rattle.printing.specs.Text.{ascii}
 use Rattle.printing.specs.Lines.{reportLines, refusedLine}
 use Rattle.reporting.specs.Printed.{keyBytes, codeByte, firstSize, firstMessage, secondMessage, readable, reportText, tagText, printed}
@@ -45,7 +46,7 @@ module _ (keys : List ℕ) (c n : ℕ) (s f : List ℕ) (r : Refusal) (e : r ≡
 
 module _ (keys : List ℕ) (c : ℕ) (s second : List ℕ) (r : Refusal) (e : r ≡ tagRefusal keys c s 1336) where
   abbrev file : List ℕ
-  file = tagFile (keysIn keys) c (itemCount s) (item s)
+  file = tagFile (keysIn keys) (headFor c (itemCount s)) (item s)
 
   pub tag-refused : (r .number ≡ 0 → ⊥) → refusedLine r ≡ tagText keys c s second
   unfolding tagText

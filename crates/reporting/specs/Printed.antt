@@ -7,8 +7,10 @@ use lib.ListN.{length, getD, take, drop}
 use Rattle.cipher.specs.Block.{if_then_else_, zeros}
 use Rattle.files.specs.Refusals.{passes}
 use Rattle.files.specs.Message.{number16, itemCount, item}
+use Rattle.files.specs.TagFile.{headFor}
 use Rattle.tagging.specs.Tagging.{keysIn, tagFile}
-use Rattle.scheme.specs.Calls.{tagRefusal, reportRefusal, reportAnswer, reportNamed, reportRows, reportWrites}
+use Rattle.checks.specs.Refused.{tagRefusal, reportRefusal}
+use Rattle.scheme.specs.Calls.{reportAnswer, reportNamed, reportRows, reportWrites}
 use Rattle.printing.specs.Text.{ascii}
 use Rattle.printing.specs.Lines.{reportLines, refusedLine}
 
@@ -45,7 +47,7 @@ reportText keys c n s f =
 unfoldable pub tagText : List ℕ → ℕ → List ℕ → List ℕ → List ℕ
 tagText keys c s second =
     if passes (tagRefusal keys c s 1336)
-    then reportText keys c (itemCount s) second (tagFile (keysIn keys) c (itemCount s) (item s))
+    then reportText keys c (itemCount s) second (tagFile (keysIn keys) (headFor c (itemCount s)) (item s))
     else refusedLine (tagRefusal keys c s 1336)
 
 -- "Input under 51 or over 65,536 bytes, or a length past the end, prints only "unreadable"."

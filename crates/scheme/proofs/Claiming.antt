@@ -26,13 +26,13 @@ use Rattle.incidence.proofs.Rejects.{detects-as}
 use Rattle.sizes.specs.Sizes.{familyOf}
 use Rattle.sizes.proofs.Laws.{lawful}
 use Rattle.files.specs.Message.{itemCount, item}
-use Rattle.files.specs.TagFile.{tagPrefix, header, body, sealed, codeOf, countFits}
+use Rattle.files.specs.TagFile.{headFor, tagPrefix, header, body, sealed, codeOf, countFits}
 use Rattle.decoding.specs.Decoding.{marksOf}
 use Rattle.tagging.specs.declared.Keys.{Keys}
 use Rattle.tagging.specs.Tagging.{keysIn, hashes, fileOf, tagFile}
 use Rattle.scheme.specs.Calls.{sumFrom, agrees}
 use Rattle.scheme.specs.Claim.{changed, NoRowCancels, marked, Claim}
-use Rattle.scheme.proofs.Checking.{Reportable}
+use Rattle.checks.specs.Passed.{Reportable}
 use Rattle.scheme.proofs.Unaltered.{KeyBlocks, key-blocks, hashes-long, fit-code, fit-count, code-is, rows-back}
 
 -- ---- the marks written
@@ -70,12 +70,12 @@ module _ (K : Keys) (B : KeyBlocks K) (s : List ℕ) (c : ℕ) (fit : countFits 
     (bytes : (j : ℕ) → 1 ≤ j → j ≤ itemCount s → Bytes (old j)) where
   -- against the unaltered file, a row agrees where its sum is as it was
   row-agrees : (i : ℕ) → 1 ≤ i → i ≤ familyOf c .rows
-      → agrees K s (tagFile K c (itemCount s) old) i ≡ same (rowSum (familyOf c) (hashes K (item s)) (itemCount s) i) (rowSum (familyOf c) (hashes K old) (itemCount s) i)
+      → agrees K s (tagFile K (headFor c (itemCount s)) old) i ≡ same (rowSum (familyOf c) (hashes K (item s)) (itemCount s) i) (rowSum (familyOf c) (hashes K old) (itemCount s) i)
   unfolding agrees sumFrom
   row-agrees i l u =
       ap₂ same (ap (λ (x : ℕ). rowSum (familyOf x) (hashes K (item s)) (itemCount s) i) (code-is K B c (itemCount s) fit old bytes)) (rows-back K B c (itemCount s) fit old bytes i l u)
 
-  quiet : QuietRowsAgree (familyOf c) (itemCount s) (changed old (item s)) (agrees K s (tagFile K c (itemCount s) old))
+  quiet : QuietRowsAgree (familyOf c) (itemCount s) (changed old (item s)) (agrees K s (tagFile K (headFor c (itemCount s)) old))
   unfolding changed hashes
   quiet i l u h =
       row-agrees i l u
@@ -89,9 +89,9 @@ module _ (K : Keys) (B : KeyBlocks K) (s : List ℕ) (c : ℕ) (fit : countFits 
           go true e = e
           go false e = absurd (not-both (familyOf c .on i j) o (h j a b (ap not e)))
 
-  loud : NoRowCancels (familyOf c) K old (item s) (itemCount s) → ChangedRowsDisagree (familyOf c) (itemCount s) (changed old (item s)) (agrees K s (tagFile K c (itemCount s) old))
+  loud : NoRowCancels (familyOf c) K old (item s) (itemCount s) → ChangedRowsDisagree (familyOf c) (itemCount s) (changed old (item s)) (agrees K s (tagFile K (headFor c (itemCount s)) old))
   loud none i j l u a b ch o =
-      not-passed (agrees K s (tagFile K c (itemCount s) old) i) (λ t. none i (record {
+      not-passed (agrees K s (tagFile K (headFor c (itemCount s)) old) i) (λ t. none i (record {
         low = l;
         high = u;
         at = j;
@@ -102,7 +102,7 @@ module _ (K : Keys) (B : KeyBlocks K) (s : List ℕ) (c : ℕ) (fit : countFits 
         equal = sym (same-true _ _ (sym (row-agrees i l u) ∙ t));
       }))
 
-  claimed : (f marks rest : List ℕ) (names : ℕ) (said : Answer) → f ≡ tagFile K c (itemCount s) old
+  claimed : (f marks rest : List ℕ) (names : ℕ) (said : Answer) → f ≡ tagFile K (headFor c (itemCount s)) old
       → marks ≡ marksOf (named (familyOf (codeOf f)) (agrees K s f)) (itemCount s) ++ rest
       → names ≡ numberNamed (familyOf (codeOf f)) (agrees K s f) (itemCount s)
       → said ≡ answer (familyOf (codeOf f)) (agrees K s f) (itemCount s)
@@ -111,7 +111,7 @@ module _ (K : Keys) (B : KeyBlocks K) (s : List ℕ) (c : ℕ) (fit : countFits 
   unfolding numberNamed
   claimed f marks rest names said ef em en es =
       let F = familyOf c in
-      let A = agrees K s (tagFile K c (itemCount s) old) in
+      let A = agrees K s (tagFile K (headFor c (itemCount s)) old) in
       let e = code-is K B c (itemCount s) fit old bytes in
       let m = em ∙ ap (λ (x : List ℕ). marksOf (named (familyOf (codeOf x)) (agrees K s x)) (itemCount s) ++ rest) ef
       ∙ ap (λ (x : ℕ). marksOf (named (familyOf x) A) (itemCount s) ++ rest) e in
@@ -125,7 +125,7 @@ module _ (K : Keys) (B : KeyBlocks K) (s : List ℕ) (c : ℕ) (fit : countFits 
       )
 
 -- a file that says a code says the code that it was laid out for
-code-says : (K : Keys) (c n : ℕ) (items : ℕ → List ℕ) → codeOf (tagFile K c n items) ≡ c
+code-says : (K : Keys) (c n : ℕ) (items : ℕ → List ℕ) → codeOf (tagFile K (headFor c n) items) ≡ c
 unfolding tagFile fileOf sealed body header tagPrefix codeOf
 code-says K c n items = refl
 

@@ -15,14 +15,13 @@ use Rattle.incidence.proofs.Rowwise.{named-ext, numberNamed-ext, disagreeing-ex
 use Rattle.sizes.specs.Sizes.{familyOf}
 use Rattle.sizes.proofs.Laws.{lawful}
 use Rattle.files.specs.Message.{itemCount, item}
-use Rattle.files.specs.TagFile.{codeOf}
-use Rattle.files.proofs.Accepted.{Formed}
+use Rattle.files.specs.TagFile.{codeOf, Formed}
 use Rattle.sums.specs.Adding.{sumIn, Holds}
 use Rattle.decoding.specs.Decoding.{agreesIn, marksOf}
 use Rattle.tagging.specs.declared.Keys.{Keys}
 use Rattle.tagging.specs.Tagging.{hashes}
 use Rattle.scheme.specs.Calls.{sumFrom, sumTagged, sumExpanded, agrees}
-use Rattle.scheme.proofs.Checking.{file-code}
+use Rattle.checks.proofs.Checking.{file-code}
 
 marks-ext : (p q : ℕ → Bool) (n : ℕ) → ((j : ℕ) → p j ≡ q j) → marksOf p n ≡ marksOf q n
 unfolding marksOf

@@ -12,8 +12,7 @@ use Rattle.cipher.proofs.Xor.{same-true, same-eq}
 use Rattle.cipher.proofs.Slots.{slot-length, slot-front, listOf-length, listOf-ext, slot-listOf}
 use Rattle.sizes.specs.Sizes.{familyOf}
 use Rattle.files.specs.Message.{itemCount, item}
-use Rattle.files.specs.TagFile.{fileSize, codeOf, countOf, tagsIn}
-use Rattle.files.proofs.Accepted.{Formed}
+use Rattle.files.specs.TagFile.{headFor, fileSize, codeOf, countOf, headOf, tagsIn, Formed}
 use Rattle.keyed.specs.Keyed.{itemHash, tagOf, sumOfTag, tagsBy, sumsBy}
 use Rattle.keyed.proofs.KeyedLaws.{sumOfTag-length}
 use Rattle.sums.specs.Adding.{sumIn, Holds, Added}
@@ -26,11 +25,11 @@ use Rattle.scheme.specs.Calls.{tagsFor, sumTagged, replacedSum}
 
 -- a file written from sums that hold those of the items is the items' tag file
 pub tag-file-made : (k K : Keys) (c n m : ℕ) (items : ℕ → List ℕ) (before sums rest o : List ℕ) → k ≡ K → n ≡ m → Holds (familyOf c .tags) (tagSum k c items m) before sums
-    → o ≡ fileOf k c n (sumIn sums) ++ rest → o ≡ tagFile K c m items ++ rest
+    → o ≡ fileOf k (headFor c n) (sumIn sums) ++ rest → o ≡ tagFile K (headFor c m) items ++ rest
 unfolding tagFile
 tag-file-made k K c n m items before sums rest o ek en H e =
     e ∙ ap (λ (f : List ℕ). f ++ rest)
-    (ap (λ (x : ℕ). fileOf k c x (sumIn sums)) en ∙ file-same k c m (sumIn sums) (tagSum k c items m) (H .sums) ∙ ap (λ (x : Keys). fileOf x c m (tagSum x c items m)) ek)
+    (ap (λ (x : ℕ). fileOf k (headFor c x) (sumIn sums)) en ∙ file-same k (headFor c m) (sumIn sums) (tagSum k c items m) (H .sums) ∙ ap (λ (x : Keys). fileOf x (headFor c m) (tagSum x c items m)) ek)
 
 -- ---- the sums of a file's tags
 
@@ -98,14 +97,14 @@ module _ (k K : Keys) (f : List ℕ) (c n j : ℕ) (old new z s0 s1 s2 out o : L
       ∙ ap (λ (x : List ℕ). if on then x ⊕ new-hash else x) (A .sums t l u ∙ ap (λ (x : List ℕ). if on then x ⊕ old-hash else x) (H .sums t l (omega (arith, e))))
       ∙ twice on (sumTagged k f t) old-hash new-hash
 
-  pub replaced-made : o ≡ fileOf k c n (sumIn s2) ++ drop (fileSize c) out
-      → o ≡ fileOf K (codeOf f) (countOf f) (replacedSum K f j old new) ++ drop (fileSize (codeOf f)) out
-  unfolding replacedSum both
+  pub replaced-made : o ≡ fileOf k (headFor c n) (sumIn s2) ++ drop (fileSize c) out
+      → o ≡ fileOf K (headOf f) (replacedSum K f j old new) ++ drop (fileSize (codeOf f)) out
+  unfolding replacedSum both headOf
   replaced-made e =
       e
-      ∙ ap (λ (x : List ℕ). x ++ drop (fileSize c) out) (file-same k c n (sumIn s2) (both c) sums-both)
-      ∙ ap₂ (λ (x y : ℕ). fileOf k x y (both x) ++ drop (fileSize x) out) ec en
-      ∙ ap (λ (x : Keys). fileOf x (codeOf f) (countOf f) (replacedSum x f j old new) ++ drop (fileSize (codeOf f)) out) ek
+      ∙ ap (λ (x : List ℕ). x ++ drop (fileSize c) out) (file-same k (headFor c n) (sumIn s2) (both c) sums-both)
+      ∙ ap₂ (λ (x y : ℕ). fileOf k (headFor x y) (both x) ++ drop (fileSize x) out) ec en
+      ∙ ap (λ (x : Keys). fileOf x (headFor (codeOf f) (countOf f)) (replacedSum x f j old new) ++ drop (fileSize (codeOf f)) out) ek
 
 -- ---- Verify
 

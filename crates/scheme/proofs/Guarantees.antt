@@ -22,15 +22,16 @@ use Rattle.incidence.proofs.Sums.{rowSum-same, rowSum-change}
 use Rattle.sizes.specs.Sizes.{familyOf}
 use Rattle.files.specs.Refusals.{none, unless, first}
 use Rattle.files.specs.Message.{itemCount, item, itemStart, itemSize, refuse3, refuse5, refuse8}
-use Rattle.files.specs.TagFile.{fileSize, codeOf, countOf, tagsIn, countFits, refuse6, refuse20}
+use Rattle.files.specs.TagFile.{headFor, fileSize, codeOf, countOf, headOf, tagsIn, countFits, refuse6, refuse20}
 use Rattle.files.specs.Arguments.{refuse1, refuse7, refuse9}
 use Rattle.files.proofs.Passing.{first-later, first-none, unless-true, given, and-true}
 use Rattle.keyed.specs.Keyed.{itemHash}
 use Rattle.tagging.specs.Tagging.{keysIn, hashes, tagSum, fileOf, tagFile}
 use Rattle.tagging.proofs.Writing.{file-same}
-use Rattle.scheme.specs.Calls.{refuse21, tagRefusal, verifyRefusal, tagsFor, verifyYes, reportRefusal, sumTagged, replaceRefusal, replacedSum, replacedItem, replaceWrites}
+use Rattle.checks.specs.Refused.{refuse21, tagRefusal, verifyRefusal, reportRefusal, replaceRefusal}
+use Rattle.scheme.specs.Calls.{tagsFor, verifyYes, sumTagged, replacedSum, replacedItem, replaceWrites}
 use Rattle.scheme.specs.Claim.{changed, NoRowCancels, marked, Claim}
-use Rattle.scheme.proofs.Checking.{taggable}
+use Rattle.checks.proofs.Checking.{taggable}
 use Rattle.scheme.proofs.Unaltered.{key-blocks, hashes-long, code-is, count-is, tags-are, accepted, sums-back}
 
 -- ---- nothing is refused
@@ -48,13 +49,13 @@ verify-passes keys s f h a b d e g =
 -- room for the marks, is not refused.
 pub report-passes : (keys s : List ℕ) (c room : ℕ) (old : ℕ → List ℕ) → Bytes keys → length keys ≡ 48 → refuse3 s ≡ none → refuse5 s ≡ none
     → countFits c (itemCount s) ≡ true → ((j : ℕ) → 1 ≤ j → j ≤ itemCount s → Bytes (old j)) → itemCount s ≤ room
-    → reportRefusal keys s (tagFile (keysIn keys) c (itemCount s) old) room ≡ none
+    → reportRefusal keys s (tagFile (keysIn keys) (headFor c (itemCount s)) old) room ≡ none
 unfolding reportRefusal refuse7
 report-passes keys s c room old b h p q fit bytes r =
     let K = keysIn keys in
     let B = key-blocks keys b h in
     let a = accepted K B c (itemCount s) fit old bytes in
-    first-later _ _ (verify-passes keys s (tagFile K c (itemCount s) old) h p q (a .0) (a .1) (sym (count-is K B c (itemCount s) fit old bytes)))
+    first-later _ _ (verify-passes keys s (tagFile K (headFor c (itemCount s)) old) h p q (a .0) (a .1) (sym (count-is K B c (itemCount s) fit old bytes)))
     ∙ first-none (refuse7 (itemCount s) room) (unless-true _ 7 0 (le-leb (itemCount s) room r))
 
 -- ---- Tag and Verify
@@ -65,7 +66,7 @@ item-bytes s b j = take-bytes (itemSize s j) (drop (itemStart s j) s) (drop-byte
 
 -- where Tag does not refuse, Verify accepts its file and says yes
 pub tag-verifies : (keys : List ℕ) (c : ℕ) (s : List ℕ) (room : ℕ) → Bytes keys → Bytes s → tagRefusal keys c s room ≡ none
-    → (verifyRefusal keys s (tagFile (keysIn keys) c (itemCount s) (item s)) ≡ none) × (verifyYes keys s (tagFile (keysIn keys) c (itemCount s) (item s)) ≡ true)
+    → (verifyRefusal keys s (tagFile (keysIn keys) (headFor c (itemCount s)) (item s)) ≡ none) × (verifyYes keys s (tagFile (keysIn keys) (headFor c (itemCount s)) (item s)) ≡ true)
 unfolding verifyYes tagsFor countFits
 tag-verifies keys c s room b m e =
     let t = taggable keys c s room none (sym e) refl in
@@ -73,7 +74,7 @@ tag-verifies keys c s room b m e =
     let B = key-blocks keys b (t .keys48) in
     let fit = and-true _ _ (t .code) (and-true _ _ (le-leb 1 (itemCount s) (t .low)) (le-leb (itemCount s) (familyOf c .items) (t .high))) in
     let bytes : (j : ℕ) → 1 ≤ j → j ≤ itemCount s → Bytes (item s j) = λ j l u. item-bytes s m j in
-    let f = tagFile K c (itemCount s) (item s) in
+    let f = tagFile K (headFor c (itemCount s)) (item s) in
     let a = accepted K B c (itemCount s) fit (item s) bytes in
     let v = verify-passes keys s f (t .keys48) (t .message .head) (t .message .whole) (a .0) (a .1) (sym (count-is K B c (itemCount s) fit (item s) bytes)) in (
       v,
@@ -120,13 +121,13 @@ module _ (keys : List ℕ) (b : Bytes keys) (h : length keys ≡ 48) (c n : ℕ)
       (λ k l u o. others-stay k (λ q. not-both (F .on i k) o (ap (F .on i) q ∙ e)))
 
   sums-replaced : (k : ℕ) → 1 ≤ k → k ≤ familyOf c .tags
-      → replacedSum (keysIn keys) (tagFile (keysIn keys) c n items) j (items j) new k ≡ tagSum (keysIn keys) c (replacedItem items j new) n k
+      → replacedSum (keysIn keys) (tagFile (keysIn keys) (headFor c n) items) j (items j) new k ≡ tagSum (keysIn keys) c (replacedItem items j new) n k
   unfolding replacedSum tagSum
   sums-replaced k l u =
       let K = keysIn keys in
       let B = key-blocks keys b h in
       let F = familyOf c in
-      let f = tagFile K c n items in
+      let f = tagFile K (headFor c n) items in
       ap (λ (x : ℕ). if familyOf x .on (familyOf x .rowOfTag k) j then (sumTagged K f k ⊕ itemHash (K .item) j (items j)) ⊕ itemHash (K .item) j new else sumTagged K f k)
       (code-is K B c n fit items bytes)
       ∙ ap (λ (x : List ℕ). if F .on (F .rowOfTag k) j then (x ⊕ itemHash (K .item) j (items j)) ⊕ itemHash (K .item) j new else x) (sums-back K B c n fit items bytes k l u)
@@ -135,12 +136,12 @@ module _ (keys : List ℕ) (b : Bytes keys) (h : length keys ≡ 48) (c n : ℕ)
   -- On an unaltered file, with the keys it was made with, Replace is not refused: whatever the old item, where both are short enough and the
   -- lent buffer has room.
   pub replace-passes : (old : List ℕ) (room : ℕ) → length old ≤ 1024 → length new ≤ 1024 → fileSize c ≤ room
-      → replaceRefusal keys (tagFile (keysIn keys) c n items) j old new room ≡ none
+      → replaceRefusal keys (tagFile (keysIn keys) (headFor c n) items) j old new room ≡ none
   unfolding replaceRefusal refuse1 refuse8 refuse9 refuse7
   replace-passes old room lo ln r =
       let K = keysIn keys in
       let B = key-blocks keys b h in
-      let f = tagFile K c n items in
+      let f = tagFile K (headFor c n) items in
       let a = accepted K B c n fit items bytes in
       let en = count-is K B c n fit items bytes in
       let ec = ap fileSize (code-is K B c n fit items bytes) in
@@ -152,16 +153,16 @@ module _ (keys : List ℕ) (b : Bytes keys) (h : length keys ≡ 48) (c n : ℕ)
       ∙ first-none (refuse7 (fileSize (codeOf f)) room) (unless-true _ 7 0 (le-leb (fileSize (codeOf f)) room (omega arith)))
 
   -- "On an unaltered sheet, with the keys it was made with, it equals tagging afresh when the old card is the one tagged."
-  pub replace-afresh : (out : List ℕ) → replaceRefusal keys (tagFile (keysIn keys) c n items) j (items j) new (length out) ≡ none
-      → replaceWrites keys (tagFile (keysIn keys) c n items) j (items j) new out ≡ tagFile (keysIn keys) c n (replacedItem items j new) ++ drop (fileSize c) out
-  unfolding replaceWrites tagFile
+  pub replace-afresh : (out : List ℕ) → replaceRefusal keys (tagFile (keysIn keys) (headFor c n) items) j (items j) new (length out) ≡ none
+      → replaceWrites keys (tagFile (keysIn keys) (headFor c n) items) j (items j) new out ≡ tagFile (keysIn keys) (headFor c n) (replacedItem items j new) ++ drop (fileSize c) out
+  unfolding replaceWrites tagFile headOf
   replace-afresh out e =
       let K = keysIn keys in
       let B = key-blocks keys b h in
-      let f = tagFile K c n items in
+      let f = tagFile K (headFor c n) items in
       sym (given none (replaceRefusal keys f j (items j) new (length out)) (sym e) _ _ refl)
-      ∙ ap₂ (λ (x y : ℕ). fileOf K x y (replacedSum K f j (items j) new) ++ drop (fileSize x) out) (code-is K B c n fit items bytes) (count-is K B c n fit items bytes)
-      ∙ ap (λ (x : List ℕ). x ++ drop (fileSize c) out) (file-same K c n (replacedSum K f j (items j) new) (tagSum K c (replacedItem items j new) n) sums-replaced)
+      ∙ ap₂ (λ (x y : ℕ). fileOf K (headFor x y) (replacedSum K f j (items j) new) ++ drop (fileSize x) out) (code-is K B c n fit items bytes) (count-is K B c n fit items bytes)
+      ∙ ap (λ (x : List ℕ). x ++ drop (fileSize c) out) (file-same K (headFor c n) (replacedSum K f j (items j) new) (tagSum K c (replacedItem items j new) n) sums-replaced)
 
 -- "another old card goes unnoticed": of any two old items that are not too long, both are refused alike, or neither is
 pub old-unnoticed : (keys f : List ℕ) (j : ℕ) (old other new : List ℕ) (room : ℕ) → length old ≤ 1024 → length other ≤ 1024
@@ -175,7 +176,7 @@ old-unnoticed keys f j old other new room l o =
 -- ---- what demand 3 rules out, of a report against the unaltered file of the old items
 
 module _ (keys s f marks : List ℕ) (names : ℕ) (said : Answer) (D : Claim keys s f marks names said) (c : ℕ) (old : ℕ → List ℕ)
-    (bytes : (j : ℕ) → 1 ≤ j → j ≤ itemCount s → Bytes (old j)) (ef : f ≡ tagFile (keysIn keys) c (itemCount s) old) where
+    (bytes : (j : ℕ) → 1 ≤ j → j ≤ itemCount s → Bytes (old j)) (ef : f ≡ tagFile (keysIn keys) (headFor c (itemCount s)) old) where
   -- where at most d items changed and one did not, not every item is named
   pub never-all-named : countUpTo (changed old (item s)) (itemCount s) ≤ familyOf c .limit → (j : ℕ) → 1 ≤ j → j ≤ itemCount s → changed old (item s) j ≡ false
       → ((i : ℕ) → 1 ≤ i → i ≤ itemCount s → marked marks i ≡ true) → ⊥

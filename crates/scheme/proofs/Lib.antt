@@ -1,5 +1,4 @@
 -- The laws that the proofs of this crate and those of the crates above cite.
-pub mod Checking
 pub mod Filing
 pub mod Comparing
 pub mod Unaltered

@@ -16,7 +16,7 @@ use Rattle.incidence.proofs.Sums.{Values, expanded-ext, expanded-rowSum}
 use Rattle.sizes.specs.Sizes.{known, familyOf}
 use Rattle.sizes.proofs.Laws.{lawful}
 use Rattle.files.specs.Refusals.{none}
-use Rattle.files.specs.TagFile.{codeOf, countOf, tagsIn, countFits, refuse6, refuse20, Written}
+use Rattle.files.specs.TagFile.{headFor, codeOf, countOf, tagsIn, countFits, refuse6, refuse20, Written}
 use Rattle.files.proofs.Passing.{and-left, and-right}
 use Rattle.files.proofs.Accepted.{code-back, count-back, tags-back, written-accepted}
 use Rattle.keyed.specs.Keyed.{itemHash, tagOf, sumOfTag}
@@ -82,23 +82,22 @@ module _ (K : Keys) (B : KeyBlocks K) (c n : ℕ) (fit : countFits c n ≡ true)
   unfolding tags
   tags-long = listOf-length _ (familyOf c .tags) (λ k l. tagOf-length (K .tag) (B .tag .long) k _)
 
-  pub code-is : codeOf (tagFile K c n items) ≡ c
+  pub code-is : codeOf (tagFile K (headFor c n) items) ≡ c
   unfolding tagFile fileOf tags
-  code-is = code-back (K .seal) (B .seal .long) c n tags fit tags-long
+  code-is = code-back (K .seal) (B .seal .long) (headFor c n) tags fit tags-long
 
-  pub count-is : countOf (tagFile K c n items) ≡ n
+  pub count-is : countOf (tagFile K (headFor c n) items) ≡ n
   unfolding tagFile fileOf tags
-  count-is = count-back (K .seal) (B .seal .long) c n tags fit tags-long
+  count-is = count-back (K .seal) (B .seal .long) (headFor c n) tags fit tags-long
 
-  pub tags-are : tagsIn (tagFile K c n items) ≡ listOf (λ k. tagOf (K .tag) (suc k) (tagSum K c items n (suc k))) (familyOf c .tags)
+  pub tags-are : tagsIn (tagFile K (headFor c n) items) ≡ listOf (λ k. tagOf (K .tag) (suc k) (tagSum K c items n (suc k))) (familyOf c .tags)
   unfolding tagFile fileOf tags
-  tags-are = tags-back (K .seal) (B .seal .long) c n tags fit tags-long
+  tags-are = tags-back (K .seal) (B .seal .long) (headFor c n) tags fit tags-long
 
-  written : Written (K .seal) (tagFile K c n items)
+  written : Written (K .seal) (tagFile K (headFor c n) items)
   unfolding tagFile fileOf tags
   written = record {
-    code = c;
-    count = n;
+    head = headFor c n;
     tags = tags;
     fits = fit;
     long = tags-long;
@@ -107,11 +106,11 @@ module _ (K : Keys) (B : KeyBlocks K) (c n : ℕ) (fit : countFits c n ≡ true)
   }
 
   -- neither 6 nor 20
-  pub accepted : (refuse6 (tagFile K c n items) ≡ none) × (refuse20 (K .seal) (tagFile K c n items) ≡ none)
-  accepted = written-accepted (K .seal) (tagFile K c n items) (B .seal .long) written
+  pub accepted : (refuse6 (tagFile K (headFor c n) items) ≡ none) × (refuse20 (K .seal) (tagFile K (headFor c n) items) ≡ none)
+  accepted = written-accepted (K .seal) (tagFile K (headFor c n) items) (B .seal .long) written
 
   -- the sums of its tags are the items'
-  pub sums-back : (k : ℕ) → 1 ≤ k → k ≤ familyOf c .tags → sumTagged K (tagFile K c n items) k ≡ tagSum K c items n k
+  pub sums-back : (k : ℕ) → 1 ≤ k → k ≤ familyOf c .tags → sumTagged K (tagFile K (headFor c n) items) k ≡ tagSum K c items n k
   unfolding sumTagged tags
   sums-back k l u =
       let z : suc (k - 1) ≡ k = omega arith in
@@ -121,10 +120,10 @@ module _ (K : Keys) (B : KeyBlocks K) (c n : ℕ) (fit : countFits c n ≡ true)
       ∙ sumOfTag-tagOf (K .tag) (B .tag) k (tagSum K c items n k) (sum-is-block k)
 
   -- and so are those of all rows
-  pub rows-back : (i : ℕ) → 1 ≤ i → i ≤ familyOf c .rows → sumExpanded K (tagFile K c n items) i ≡ rowSum (familyOf c) (hashes K items) n i
+  pub rows-back : (i : ℕ) → 1 ≤ i → i ≤ familyOf c .rows → sumExpanded K (tagFile K (headFor c n) items) i ≡ rowSum (familyOf c) (hashes K items) n i
   unfolding sumExpanded tagSum
   rows-back i l u =
       let F = familyOf c in
-      ap (λ (x : ℕ). expanded (familyOf x) (sumTagged K (tagFile K c n items)) i) code-is
-      ∙ expanded-ext F (lawful c fit-code) (sumTagged K (tagFile K c n items)) (λ k. rowSum F (hashes K items) n (F .rowOfTag k)) sums-back i l u
+      ap (λ (x : ℕ). expanded (familyOf x) (sumTagged K (tagFile K (headFor c n) items)) i) code-is
+      ∙ expanded-ext F (lawful c fit-code) (sumTagged K (tagFile K (headFor c n) items)) (λ k. rowSum F (hashes K items) n (F .rowOfTag k)) sums-back i l u
       ∙ expanded-rowSum F (lawful c fit-code) (hashes K items) (hashes-long K (B .item .long) items) n fit-count i l u

@@ -1,7 +1,7 @@
 -- Document 01, 'Calls and order of checks': Tag, Verify, Report and Replace, each as what it answers and what it leaves in the buffer that
--- it is lent, for all inputs. Assumes nothing.
+-- it is lent, for all inputs. What each refuses is in checks, Refused.antt. Assumes nothing.
 use mathlib.Core.Bool.{Bool, false}
-use mathlib.Core.List.{List, [], _∷_, _++_}
+use mathlib.Core.List.{List, _++_}
 use Prim.Native.Nat.{ℕ, suc, _-_}
 use lib.Dec.{eqb}
 use lib.ListN.{length, drop}
@@ -11,37 +11,23 @@ use Rattle.incidence.specs.Report.{named, numberNamed, disagreeing, answer}
 use Rattle.incidence.specs.declared.Answer.{Answer}
 use Rattle.incidence.specs.declared.Answer.the-variants.{Beyond}
 use Rattle.sizes.specs.Sizes.{familyOf}
-use Rattle.files.specs.declared.Refusal.{Refusal}
-use Rattle.files.specs.Refusals.{unless, passes, first}
-use Rattle.files.specs.Message.{itemCount, item, refuse3, refuse5, refuse8}
-use Rattle.files.specs.TagFile.{fileSize, codeOf, countOf, tagsIn, refuse6, refuse20}
-use Rattle.files.specs.Arguments.{refuse1, refuse2, refuse4, refuse7, refuse9}
+use Rattle.files.specs.Refusals.{passes}
+use Rattle.files.specs.Message.{itemCount, item}
+use Rattle.files.specs.TagFile.{headFor, fileSize, codeOf, headOf, tagsIn}
 use Rattle.keyed.specs.Keyed.{itemHash, tagOf, sumOfTag}
 use Rattle.decoding.specs.Decoding.{marksOf}
 use Rattle.tagging.specs.declared.Keys.{Keys}
 use Rattle.tagging.specs.Tagging.{keysIn, hashes, tagSum, fileOf, tagFile}
-
--- 21: "counts of shelf and sheet differ"
-unfoldable pub refuse21 : List ℕ → List ℕ → Refusal
-refuse21 s f = unless (eqb (itemCount s) (countOf f)) 21 0
+use Rattle.checks.specs.Refused.{tagRefusal, verifyRefusal, reportRefusal, replaceRefusal}
 
 -- ---- Tag (keys, size code, shelf): 1, 2, 3, 4, 5, 7. "Writes the sheet."
-
--- `room` is the length of the buffer lent
-unfoldable pub tagRefusal : List ℕ → ℕ → List ℕ → ℕ → Refusal
-tagRefusal keys c s room =
-    first (refuse1 (length keys) ∷ refuse2 c ∷ refuse3 s ∷ refuse4 c (itemCount s) ∷ refuse5 s ∷ refuse7 (fileSize c) room ∷ [])
 
 -- what out holds at the end: "Output goes to the front of a lent buffer; the bytes behind stay."
 unfoldable pub tagWrites : List ℕ → ℕ → List ℕ → List ℕ → List ℕ
 tagWrites keys c s out =
-    if passes (tagRefusal keys c s (length out)) then tagFile (keysIn keys) c (itemCount s) (item s) ++ drop (fileSize c) out else out
+    if passes (tagRefusal keys c s (length out)) then tagFile (keysIn keys) (headFor c (itemCount s)) (item s) ++ drop (fileSize c) out else out
 
 -- ---- Verify (keys, shelf, sheet): 1, 3, 5, 6, 20, 21. "Yes when the shelf's tags equal the sheet's, else no."
-
-unfoldable pub verifyRefusal : List ℕ → List ℕ → List ℕ → Refusal
-verifyRefusal keys s f =
-    first (refuse1 (length keys) ∷ refuse3 s ∷ refuse5 s ∷ refuse6 f ∷ refuse20 (keysIn keys .seal) f ∷ refuse21 s f ∷ [])
 
 -- the message's tags, one after another
 unfoldable pub tagsFor : Keys → ℕ → List ℕ → List ℕ
@@ -51,9 +37,6 @@ unfoldable pub verifyYes : List ℕ → List ℕ → List ℕ → Bool
 verifyYes keys s f = if passes (verifyRefusal keys s f) then same (tagsFor (keysIn keys) (codeOf f) s) (tagsIn f) else false
 
 -- ---- Report: as Verify, then 7
-
-unfoldable pub reportRefusal : List ℕ → List ℕ → List ℕ → ℕ → Refusal
-reportRefusal keys s f room = first (verifyRefusal keys s f ∷ refuse7 (itemCount s) room ∷ [])
 
 -- row i's sum from the message
 unfoldable pub sumFrom : Keys → ℕ → List ℕ → ℕ → List ℕ
@@ -94,12 +77,6 @@ reportRows keys s f out =
 
 -- ---- Replace (keys, sheet, card number, old card, new card): 1, 6, 20, 8, 9, 7
 
--- 9: "Place in Replace: 1 old, 2 new, old first."
-unfoldable pub replaceRefusal : List ℕ → List ℕ → ℕ → List ℕ → List ℕ → ℕ → Refusal
-replaceRefusal keys f j old new room =
-    first (refuse1 (length keys) ∷ refuse6 f ∷ refuse20 (keysIn keys .seal) f ∷ refuse8 (countOf f) j ∷ refuse9 (length old) 1
-    ∷ refuse9 (length new) 2 ∷ refuse7 (fileSize (codeOf f)) room ∷ [])
-
 -- "Adds both codes to each tagged row of that card": the sum of tag k, had back and changed
 unfoldable pub replacedSum : Keys → List ℕ → ℕ → List ℕ → List ℕ → ℕ → List ℕ
 replacedSum keys f j old new k =
@@ -115,5 +92,5 @@ replacedItem items j new i = if eqb i j then new else items i
 unfoldable pub replaceWrites : List ℕ → List ℕ → ℕ → List ℕ → List ℕ → List ℕ → List ℕ
 replaceWrites keys f j old new out =
     if passes (replaceRefusal keys f j old new (length out))
-    then fileOf (keysIn keys) (codeOf f) (countOf f) (replacedSum (keysIn keys) f j old new) ++ drop (fileSize (codeOf f)) out
+    then fileOf (keysIn keys) (headOf f) (replacedSum (keysIn keys) f j old new) ++ drop (fileSize (codeOf f)) out
     else out

@@ -14,6 +14,7 @@ use Rattle.incidence.specs.Detection.{Detects}
 use Rattle.incidence.specs.declared.Answer.{Answer}
 use Rattle.sizes.specs.Sizes.{familyOf}
 use Rattle.files.specs.Message.{itemCount, item}
+use Rattle.files.specs.TagFile.{headFor}
 use Rattle.tagging.specs.declared.Keys.{Keys}
 use Rattle.tagging.specs.Tagging.{keysIn, hashes, tagFile}
 
@@ -44,6 +45,6 @@ marked marks j = eqb (getD marks (j - 1) 0) 1
 -- these keys. The number returned is that of the items named.
 abbrev pub Claim : List ℕ → List ℕ → List ℕ → List ℕ → ℕ → Answer → Type 0
 Claim keys s f marks names said =
-    (c : ℕ) (old : ℕ → List ℕ) → ((j : ℕ) → 1 ≤ j → j ≤ itemCount s → Bytes (old j)) → f ≡ tagFile (keysIn keys) c (itemCount s) old
+    (c : ℕ) (old : ℕ → List ℕ) → ((j : ℕ) → 1 ≤ j → j ≤ itemCount s → Bytes (old j)) → f ≡ tagFile (keysIn keys) (headFor c (itemCount s)) old
     → Detects (familyOf c .limit) (itemCount s) (NoRowCancels (familyOf c) (keysIn keys) old (item s) (itemCount s)) (changed old (item s)) (marked marks) said
     × (names ≡ countUpTo (marked marks) (itemCount s))

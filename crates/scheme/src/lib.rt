@@ -4,6 +4,10 @@ use cipher::aes;
 use cipher::cmac;
 use decoding::Decoded;
 use files::Refusal;
+use files::message;
+use files::tagfile;
+use files::tagfile::Head;
+use files::tagfile::TAGS_AT;
 use incidence::Answer;
 use tagging::Keys;
 ghost use mathlib.Core.Path.{_≡_};
@@ -14,25 +18,28 @@ ghost use Rattle.cipher.specs.Block.{same};
 ghost use Rattle.incidence.specs.Report.{named, numberNamed, disagreeing, answer};
 ghost use Rattle.sizes.specs.Sizes.{familyOf};
 ghost use Rattle.files.specs.Message.{itemCount, item};
-ghost use Rattle.files.specs.TagFile.{fileSize, codeOf, countOf, tagsIn, refuse6};
+ghost use Rattle.files.specs.TagFile.{headFor, fileSize, codeOf, headOf, tagsIn, Formed};
 ghost use Rattle.sums.specs.Adding.{Holds};
 ghost use Rattle.decoding.specs.Decoding.{marksOf};
 ghost use Rattle.tagging.specs.Tagging.{keysIn, fileOf, tagFile};
-ghost use Rattle.scheme.specs.Calls.{tagRefusal, tagWrites, verifyRefusal, tagsFor, verifyYes, reportRefusal, sumTagged, agrees, reportWrites, reportAnswer, reportNamed, reportRows, replaceRefusal, replacedSum, replaceWrites};
+ghost use Rattle.checks.specs.Refused.{tagRefusal, verifyRefusal, reportRefusal, replaceRefusal};
+ghost use Rattle.checks.specs.Passed.{Taggable, Comparable, Reportable, Replaceable};
+ghost use Rattle.scheme.specs.Calls.{tagWrites, tagsFor, verifyYes, sumTagged, agrees, reportWrites, reportAnswer, reportNamed, reportRows, replacedSum, replaceWrites};
 ghost use Rattle.scheme.specs.Claim.{Claim};
-
-pub mod checks;
 
 // Writes the tag file of a message that is not refused to the front of out.
 fn write_tag_file(keys: &[u8], code: u64, s: &[u8], out: &mut [u8])
-    requires { ⌜ tagRefusal (now keys) code (now s) (length (now out)) .number ≡ 0 ⌝ }
-    ensures { λ _. ⌜ now (out .exit) ≡ tagFile (keysIn (now (keys .entry))) code (itemCount (now (s .entry))) (item (now (s .entry))) ++ drop (fileSize code) (now (out .entry)) ⌝ }
+    requires { ⌜ Taggable (now keys) code (now s) (length (now out)) ⌝ }
+    ensures { λ _. ⌜ now (out .exit) ≡ tagFile (keysIn (now (keys .entry))) (headFor code (itemCount (now (s .entry)))) (item (now (s .entry))) ++ drop (fileSize code) (now (out .entry)) ⌝ }
 {
     let k = tagging::keys_in(keys);
-    let n = files::message::number16(s, 5);
-    let mut sums = [0u8; 1312];
+    let head = Head {
+        code,
+        count: message::item_count(s),
+    };
+    let mut sums = [0u8; sums::TAGS_MOST];
     tagging::sum_tags(code, k, s, &mut sums);
-    tagging::write_file(code, n, k, &sums, out);
+    tagging::write_file(head, k, &sums, out);
 }
 
 // Tag: writes the tag file of a message for a size code to the front of out; the bytes behind stay.
@@ -57,19 +64,19 @@ pub struct Verified {
 
 // Whether the tags of a message that is not refused equal the file's.
 fn tags_equal(keys: &[u8], s: &[u8], f: &[u8]) -> bool
-    requires { ⌜ verifyRefusal (now keys) (now s) (now f) .number ≡ 0 ⌝ }
+    requires { ⌜ Comparable (now keys) (now s) (now f) ⌝ }
     ensures { λ r. ⌜ r ≡ same (tagsFor (keysIn (now (keys .entry))) (codeOf (now (f .entry))) (now (s .entry))) (tagsIn (now (f .entry))) ⌝ }
 {
     let k = tagging::keys_in(keys);
     let tag_key = k.tag;
-    let code = files::tagfile::code_of(f);
-    let t = sizes::tags(code);
+    let head = tagfile::head_of(f);
+    let t = sizes::tags(head.code);
     let end = 16 * t;
-    let mut sums = [0u8; 1312];
-    tagging::sum_tags(code, k, s, &mut sums);
-    let mut tags = [0u8; 1312];
+    let mut sums = [0u8; sums::TAGS_MOST];
+    tagging::sum_tags(head.code, k, s, &mut sums);
+    let mut tags = [0u8; sums::TAGS_MOST];
     keyed::write_tags(aes::key_expansion(tag_key), &sums, t, &mut tags);
-    check::same(&tags[0..end], &f[8..8 + end])
+    check::same(&tags[0..end], &f[TAGS_AT..TAGS_AT + end])
 }
 
 // Verify: yes when the message's tags equal the file's, else no.
@@ -94,30 +101,30 @@ pub fn verify(keys: &[u8], message: &[u8], file: &[u8]) -> Verified
 
 // Fills the front of sums with those that the tags of a file were made of; what is behind them stays.
 fn read_sums(keys: Keys, f: &[u8], sums: &mut [u8])
-    requires { ⌜ refuse6 (now f) .number ≡ 0 ⌝ }
+    requires { ⌜ Formed (now f) ⌝ }
     requires { ⌜ 16 * familyOf (codeOf (now f)) .tags ≤ length (now sums) ⌝ }
     ensures { λ _. ⌜ Holds (familyOf (codeOf (now (f .entry))) .tags) (sumTagged keys (now (f .entry))) (now (sums .entry)) (now (sums .exit)) ⌝ }
 {
     let key = keys.tag;
-    let t = sizes::tags(files::tagfile::code_of(f));
-    keyed::write_sums(aes::key_expansion(key), &f[8..], t, sums);
+    let head = tagfile::head_of(f);
+    let t = sizes::tags(head.code);
+    keyed::write_sums(aes::key_expansion(key), &f[TAGS_AT..], t, sums);
 }
 
 // Writes the file with the old item's hash and the new one's added to the sums of the item's tagged rows, sealed, to the front of out.
 fn write_replaced(keys: &[u8], f: &[u8], j: u64, old: &[u8], new: &[u8], out: &mut [u8])
-    requires { ⌜ replaceRefusal (now keys) (now f) j (now old) (now new) (length (now out)) .number ≡ 0 ⌝ }
-    ensures { λ _. ⌜ now (out .exit) ≡ fileOf (keysIn (now (keys .entry))) (codeOf (now (f .entry))) (countOf (now (f .entry))) (replacedSum (keysIn (now (keys .entry))) (now (f .entry)) j (now (old .entry)) (now (new .entry))) ++ drop (fileSize (codeOf (now (f .entry)))) (now (out .entry)) ⌝ }
+    requires { ⌜ Replaceable (now keys) (now f) j (length (now out)) ⌝ }
+    ensures { λ _. ⌜ now (out .exit) ≡ fileOf (keysIn (now (keys .entry))) (headOf (now (f .entry))) (replacedSum (keysIn (now (keys .entry))) (now (f .entry)) j (now (old .entry)) (now (new .entry))) ++ drop (fileSize (codeOf (now (f .entry)))) (now (out .entry)) ⌝ }
 {
     let k = tagging::keys_in(keys);
     let item_key = k.item;
-    let code = files::tagfile::code_of(f);
-    let n = files::message::number16(f, 6);
-    let mut sums = [0u8; 1312];
+    let head = tagfile::head_of(f);
+    let mut sums = [0u8; sums::TAGS_MOST];
     read_sums(k, f, &mut sums);
     let m = cmac::prepare(item_key);
-    tagging::add_item(code, m, &mut sums, j as usize, old);
-    tagging::add_item(code, m, &mut sums, j as usize, new);
-    tagging::write_file(code, n, k, &sums, out);
+    tagging::add_item(head.code, m, &mut sums, j as usize, old);
+    tagging::add_item(head.code, m, &mut sums, j as usize, new);
+    tagging::write_file(head, k, &sums, out);
 }
 
 // Replace: writes the tag file with item j's old bytes replaced by new ones to the front of out; the bytes behind stay.
@@ -144,22 +151,22 @@ pub struct Reported {
 
 // Decodes the row sums of a message that is not refused against those expanded from the tag file.
 fn decode_files(keys: &[u8], s: &[u8], f: &[u8], marks: &mut [u8]) -> Decoded
-    requires { ⌜ reportRefusal (now keys) (now s) (now f) (length (now marks)) .number ≡ 0 ⌝ }
+    requires { ⌜ Reportable (now keys) (now s) (now f) (length (now marks)) ⌝ }
     ensures written { λ _. ⌜ now (marks .exit) ≡ marksOf (named (familyOf (codeOf (now (f .entry)))) (agrees (keysIn (now (keys .entry))) (now (s .entry)) (now (f .entry)))) (itemCount (now (s .entry))) ++ drop (itemCount (now (s .entry))) (now (marks .entry)) ⌝ }
     ensures answer { λ r. ⌜ r .answer ≡ answer (familyOf (codeOf (now (f .entry)))) (agrees (keysIn (now (keys .entry))) (now (s .entry)) (now (f .entry))) (itemCount (now (s .entry))) ⌝ }
     ensures named { λ r. ⌜ r .named ≡ numberNamed (familyOf (codeOf (now (f .entry)))) (agrees (keysIn (now (keys .entry))) (now (s .entry)) (now (f .entry))) (itemCount (now (s .entry))) ⌝ }
     ensures rows { λ r. ⌜ r .rows ≡ disagreeing (agrees (keysIn (now (keys .entry))) (now (s .entry)) (now (f .entry))) (familyOf (codeOf (now (f .entry))) .rows) ⌝ }
 {
     let k = tagging::keys_in(keys);
-    let code = files::tagfile::code_of(f);
-    let n = files::message::number16(s, 5);
-    let mut from = [0u8; 4368];
-    tagging::sum_rows(code, k, s, &mut from);
-    let mut tagged = [0u8; 1312];
+    let head = tagfile::head_of(f);
+    let n = message::item_count(s);
+    let mut from = [0u8; sums::ROWS_MOST];
+    tagging::sum_rows(head.code, k, s, &mut from);
+    let mut tagged = [0u8; sums::TAGS_MOST];
     read_sums(k, f, &mut tagged);
-    let mut expanded = [0u8; 4368];
-    sums::fill_rows(code, &tagged, &mut expanded);
-    decoding::decode(code, n, &from, &expanded, marks)
+    let mut expanded = [0u8; sums::ROWS_MOST];
+    sums::fill_rows(head.code, &tagged, &mut expanded);
+    decoding::decode(head.code, n, &from, &expanded, marks)
 }
 
 // Report: writes a mark for each item of the message, 1 named and 0 cleared, to the front of marks; the bytes behind stay.

@@ -8,6 +8,11 @@ ghost use lib.ListN.{length};
 ghost use Rattle.sizes.specs.Sizes.{known, familyOf};
 ghost use Rattle.sums.specs.Adding.{sumIn, Holds, Added, addedAt, rowFrom};
 
+// The most bytes that the sums of all tags and of all rows have: those of the largest size.
+pub const TAGS_MOST: usize = 1312;
+
+pub const ROWS_MOST: usize = 4368;
+
 // Adds a value to sum t; 0 stands for none.
 fn add_to_sum(sums: &mut [u8], t: usize, value: [u8; 16])
     requires { ⌜ 16 * t ≤ length (now sums) ⌝ }

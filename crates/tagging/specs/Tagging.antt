@@ -5,6 +5,7 @@ use Prim.Native.Nat.{ℕ, suc}
 use Rattle.cipher.specs.Block.{slot, listOf}
 use Rattle.incidence.specs.Sum.{rowSum}
 use Rattle.sizes.specs.Sizes.{familyOf}
+use Rattle.files.specs.declared.tagfile.Head.{Head}
 use Rattle.files.specs.TagFile.{body, sealed}
 use Rattle.keyed.specs.Keyed.{itemHash, tagOf}
 use Rattle.tagging.specs.declared.Keys.{Keys}
@@ -21,11 +22,11 @@ hashes keys items j = itemHash (keys .item) j (items j)
 unfoldable pub tagSum : Keys → ℕ → (ℕ → List ℕ) → ℕ → ℕ → List ℕ
 tagSum keys c items n k = rowSum (familyOf c) (hashes keys items) n (familyOf c .rowOfTag k)
 
--- the tag file of size code c and count n whose tags are made of these sums, laid out and sealed
-unfoldable pub fileOf : Keys → ℕ → ℕ → (ℕ → List ℕ) → List ℕ
-fileOf keys c n sum = sealed (keys .seal) (body c n (listOf (λ k. tagOf (keys .tag) (suc k) (sum (suc k))) (familyOf c .tags)))
+-- the tag file that says h before its tags, which are made of these sums, laid out and sealed
+unfoldable pub fileOf : Keys → Head → (ℕ → List ℕ) → List ℕ
+fileOf keys h sum = sealed (keys .seal) (body h (listOf (λ k. tagOf (keys .tag) (suc k) (sum (suc k))) (familyOf (h .code) .tags)))
 
--- Tag's rule, for n items. Document 01: "The unaltered sheet of a shelf, for given keys and size, is laid out for that shelf and size
+-- Tag's rule, for a head's size code and as many items as it counts. Document 01: "The unaltered sheet of a shelf, for given keys and size, is laid out for that shelf and size
 -- with the tags that Tag's rule gives, and sealed under those keys, whichever call wrote it."
-unfoldable pub tagFile : Keys → ℕ → ℕ → (ℕ → List ℕ) → List ℕ
-tagFile keys c n items = fileOf keys c n (tagSum keys c items n)
+unfoldable pub tagFile : Keys → Head → (ℕ → List ℕ) → List ℕ
+tagFile keys h items = fileOf keys h (tagSum keys (h .code) items (h .count))

@@ -7,6 +7,8 @@ use cipher::cmac::MacKey;
 use files::message;
 use files::message::Cursor;
 use files::tagfile;
+use files::tagfile::Head;
+use files::tagfile::TAGS_AT;
 ghost use mathlib.Core.Path.{_≡_};
 ghost use mathlib.Core.Bool.{true};
 ghost use mathlib.Core.List.{_++_};
@@ -61,7 +63,7 @@ pub fn sum_tags(code: u64, keys: Keys, s: &[u8], sums: &mut [u8])
 {
     let key = keys.item;
     let k = cmac::prepare(key);
-    let n = message::number16(s, 5);
+    let n = message::item_count(s);
     let mut c = Cursor::first();
     while c.passed < n {
         let start = c.at + 2;
@@ -80,7 +82,7 @@ pub fn sum_rows(code: u64, keys: Keys, s: &[u8], sums: &mut [u8])
 {
     let key = keys.item;
     let k = cmac::prepare(key);
-    let n = message::number16(s, 5);
+    let n = message::item_count(s);
     let mut c = Cursor::first();
     while c.passed < n {
         let start = c.at + 2;
@@ -91,17 +93,18 @@ pub fn sum_rows(code: u64, keys: Keys, s: &[u8], sums: &mut [u8])
     }
 }
 
-// Writes the tag file whose tags are made of the sums at the front of sums, sealed, to the front of out; what is behind it stays.
-pub fn write_file(code: u64, n: usize, keys: Keys, sums: &[u8], out: &mut [u8])
-    requires { ⌜ known code ≡ true ⌝ }
-    requires { ⌜ n ≤ familyOf code .items ⌝ }
-    requires { ⌜ (16 * familyOf code .tags ≤ length (now sums)) × (fileSize code ≤ length (now out)) ⌝ }
-    ensures { λ _. ⌜ now (out .exit) ≡ fileOf keys code n (sumIn (now (sums .entry))) ++ drop (fileSize code) (now (out .entry)) ⌝ }
+// Writes the tag file that says head before its tags, which are made of the sums at the front of sums, sealed, to the front of out; what is
+// behind it stays.
+pub fn write_file(head: Head, keys: Keys, sums: &[u8], out: &mut [u8])
+    requires { ⌜ known (head .code) ≡ true ⌝ }
+    requires { ⌜ head .count ≤ familyOf (head .code) .items ⌝ }
+    requires { ⌜ (16 * familyOf (head .code) .tags ≤ length (now sums)) × (fileSize (head .code) ≤ length (now out)) ⌝ }
+    ensures { λ _. ⌜ now (out .exit) ≡ fileOf keys head (sumIn (now (sums .entry))) ++ drop (fileSize (head .code)) (now (out .entry)) ⌝ }
 {
-    let t = sizes::tags(code);
+    let t = sizes::tags(head.code);
     let tag_key = keys.tag;
     let seal_key = keys.seal;
-    tagfile::put_header(out, code as u8, n as u16);
-    keyed::write_tags(aes::key_expansion(tag_key), sums, t, &mut out[8..]);
-    tagfile::seal(seal_key, out, 8 + 16 * t);
+    tagfile::put_header(out, head);
+    keyed::write_tags(aes::key_expansion(tag_key), sums, t, &mut out[TAGS_AT..]);
+    tagfile::seal(seal_key, out, TAGS_AT + 16 * t);
 }

@@ -9,7 +9,7 @@ use Rattle.printing.specs.Text.{over}
 use Rattle.files.specs.Message.{itemCount}
 use Rattle.sizes.proofs.Laws.{tags-few}
 use Rattle.printing.proofs.Putting.{put-as, put-front}
-use Rattle.scheme.proofs.Checking.{taggable}
+use Rattle.checks.proofs.Checking.{taggable}
 use Rattle.reporting.proofs.Texts.{tag-refused, tag-done, tag-file}
 use borrow.Author.Needs.{needs}
 use Rattle.reporting.proofs.put_both.Statement.{statement}

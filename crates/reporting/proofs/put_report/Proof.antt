@@ -8,7 +8,7 @@ use lib.ListN.{length}
 use denote.Ref.{now}
 use Rattle.printing.proofs.Putting.{put-as, put-front}
 use Rattle.files.specs.Message.{itemCount}
-use Rattle.scheme.proofs.Checking.{reportable}
+use Rattle.checks.proofs.Checking.{reportable}
 use Rattle.reporting.proofs.Texts.{report-refused, report-done}
 use borrow.Author.Needs.{needs}
 use Rattle.reporting.proofs.put_report.Statement.{statement}

@@ -1,118 +1,81 @@
 -- The rows of the message against those of the file (Comparing).
-use mathlib.Core.Path.{refl, ap, _∙_}
+use mathlib.Core.Path.{_≡_, ap, _∙_}
+use mathlib.Core.Bool.{true}
 use Prim.Native.Nat.{ℕ, _*_, _≤_}
 use native.Mathlib.Omega.{arith}
-use lib.ListN.{length}
 use Rattle.sizes.specs.Sizes.{known, familyOf}
 use Rattle.sizes.proofs.Laws.{rows-few, tags-few}
-use Rattle.files.specs.Message.{itemCount}
-use Rattle.files.specs.TagFile.{codeOf}
+use Rattle.files.specs.declared.tagfile.Head.{Head}
+use Rattle.files.specs.TagFile.{codeOf, headOf}
+use Rattle.checks.proofs.Checking.{file-code, file-count}
 use Rattle.tagging.proofs.Summing.{zero-sums}
-use Rattle.scheme.proofs.Checking.{reportable, file-code, file-count}
 use Rattle.scheme.proofs.Comparing.{written-as, answer-as, named-as, rows-as}
 use borrow.Author.Needs.{needs}
 use Rattle.scheme.proofs.decode_files.Statement.{statement}
 use Rattle.scheme.proofs.decode_files.Tie as tie
 
-keys-in-requires : tie.Need-keys-in-requires
-keys-in-requires c κs =
-    let d = c .before .before .before .before in
-    let p = reportable (d .args .keys .now) (d .args .s .now) (d .args .f .now) (length (d .args .marks .now)) _ refl (d .pre) in
-    let q = p .files in
-    omega (arith, q .keys48)
+-- the size code read is the file's
+module _ (c : tie.After-head-of) where
+  abbrev start : tie.Start
+  start = c .before .before .before .before .before .before
 
-code-of-requires : tie.Need-code-of-requires
-code-of-requires c κs =
-    let d = c .before .before .before .before .before in
-    let p = reportable (d .args .keys .now) (d .args .s .now) (d .args .f .now) (length (d .args .marks .now)) _ refl (d .pre) in
-    let q = p .files in
-    omega (arith, q .file .long)
+  code-is : c .head-of .result .code ≡ codeOf (start .args .f .now)
+  unfolding headOf
+  code-is = ap (λ (h : Head). h .code) (c .head-of .ensures .0)
 
-number16-requires : tie.Need-number16-requires
-number16-requires c κs =
-    let d = c .before .before .before .before .before .before in
-    let p = reportable (d .args .keys .now) (d .args .s .now) (d .args .f .now) (length (d .args .marks .now)) _ refl (d .pre) in
-    let q = p .files in
-    omega (arith, q .message .long)
+  code-known : known (c .head-of .result .code) ≡ true
+  code-known = ap known code-is ∙ file-code _ (start .pre .files .file)
 
-slice-aggregate-sum-rows : tie.Need-slice-aggregate-sum-rows
-slice-aggregate-sum-rows c = search needs
+  tags-fit : 16 * familyOf (c .head-of .result .code) .tags ≤ 1312
+  tags-fit = omega (arith, tags-few (c .head-of .result .code))
+
+  rows-fit : 16 * familyOf (c .head-of .result .code) .rows ≤ 4368
+  rows-fit = omega (arith, rows-few (c .head-of .result .code))
 
 sum-rows-requires : tie.Need-sum-rows-requires
 sum-rows-requires c κs =
-    let d = c .before .before .before .before .before .before .before .before in
-    let p = reportable (d .args .keys .now) (d .args .s .now) (d .args .f .now) (length (d .args .marks .now)) _ refl (d .pre) in
-    let q = p .files in
-    let e = c .before .before .code-of .ensures in
-    let r = rows-few (c .before .before .code-of .result) in
-    let h : 16 * familyOf (c .before .before .code-of .result) .rows ≤ 4368 = omega (arith, r) in
-    ((q .message .long, q .message .short, q .message .whole), (h, λ k l u. zero-sums 4368 k l (omega arith)))
-
-slice-aggregate-read-sums : tie.Need-slice-aggregate-read-sums
-slice-aggregate-read-sums c = search needs
+    let h = c .before .before in
+    let m = start h .pre .files .message in
+    ((m .long, m .short, m .whole), (rows-fit h, λ k l u. zero-sums 4368 k l (omega (arith, rows-fit h))))
 
 read-sums-requires : tie.Need-read-sums-requires
 read-sums-requires c κs =
-    let d = c .before .before .before .before .before .before .before .before .before .before .before in
-    let p = reportable (d .args .keys .now) (d .args .s .now) (d .args .f .now) (length (d .args .marks .now)) _ refl (d .pre) in
-    let q = p .files in
-    (q .six, omega (arith, tags-few (codeOf (d .args .f .now))))
-
-slice-aggregate-fill-rows : tie.Need-slice-aggregate-fill-rows
-slice-aggregate-fill-rows c = search needs
-
-slice-aggregate-fill-rows-2 : tie.Need-slice-aggregate-fill-rows-2
-slice-aggregate-fill-rows-2 c = search needs
+    let h = c .before .before .before .before .before in
+    (start h .pre .files .file, omega (arith, tags-fit h, ap (λ (x : ℕ). familyOf x .tags) (code-is h)))
 
 fill-rows-requires : tie.Need-fill-rows-requires
 fill-rows-requires c κs =
-    let d = c .before .before .before .before .before .before .before .before .before .before .before .before .before .before .before in
-    let p = reportable (d .args .keys .now) (d .args .s .now) (d .args .f .now) (length (d .args .marks .now)) _ refl (d .pre) in
-    let q = p .files in
-    let e = c .before .before .before .before .before .before .before .before .before .code-of .ensures in
-    let r = rows-few (c .before .before .before .before .before .before .before .before .before .code-of .result) in
-    let t = tags-few (c .before .before .before .before .before .before .before .before .before .code-of .result) in
-    (ap known e ∙ file-code _ (q .file), (omega (arith, t, c .before .before .before .read-sums .ensures .size), omega (arith, r)))
-
-slice-aggregate-decode : tie.Need-slice-aggregate-decode
-slice-aggregate-decode c = search needs
-
-slice-aggregate-decode-2 : tie.Need-slice-aggregate-decode-2
-slice-aggregate-decode-2 c = search needs
+    let r = c .before .before .before in
+    let h = r .before .before .before .before .before .before in
+    (code-known h, (omega (arith, tags-fit h, r .read-sums .ensures .size), rows-fit h))
 
 decode-requires : tie.Need-decode-requires
-unfolding itemCount
 decode-requires c κs =
-    let d = c .before .before .before .before .before .before .before .before .before .before .before .before .before .before .before .before .before .before .before .before in
-    let p = reportable (d .args .keys .now) (d .args .s .now) (d .args .f .now) (length (d .args .marks .now)) _ refl (d .pre) in
-    let q = p .files in
-    let e = c .before .before .before .before .before .before .before .before .before .before .before .before .before .before .code-of .ensures in
-    let r = rows-few (c .before .before .before .before .before .before .before .before .before .before .before .before .before .before .code-of .result) in
-    let i = ap (λ (x : ℕ). familyOf x .items) e in
-    let n = c .before .before .before .before .before .before .before .before .before .before .before .before .before .number16 .ensures .0 in (
-      (omega (arith, i, n, q .counts, file-count _ (q .file)), omega (arith, n, p .fits)),
-      (omega (arith, r, c .before .before .before .before .before .before .before .before .before .before .before .sum-rows .ensures .size), omega (arith, r, c .before .before .before .before .fill-rows .ensures .size)),
+    let f = c .before .before .before .before in
+    let s = f .before .before .before .before .before .before .before in
+    let h = s .before .before .before in
+    let p = start h .pre in
+    let n = s .before .before .item-count .ensures .0 in (
+      (omega (arith, n, p .files .counts, file-count _ (p .files .file), ap (λ (x : ℕ). familyOf x .items) (code-is h)), omega (arith, n, p .fits)),
+      (omega (arith, rows-fit h, s .sum-rows .ensures .size), omega (arith, rows-fit h, f .fill-rows .ensures .size)),
     )
 
-same-length : tie.Need-same-length
-same-length c = search needs
-
 returns : tie.Need-returns
-unfolding itemCount
 returns c =
-    let d = c .before .before .before .before .before .before .before .before .before .before .before .before .before .before .before .before .before .before .before .before .before .before .before in
-    let p = reportable (d .args .keys .now) (d .args .s .now) (d .args .f .now) (length (d .args .marks .now)) _ refl (d .pre) in
-    let q = p .files in
-    let e = c .before .before .before .before .before .before .before .before .before .before .before .before .before .before .before .before .before .code-of .ensures in
-    let r = rows-few (c .before .before .before .before .before .before .before .before .before .before .before .before .before .before .before .before .before .code-of .result) in
-    let k = c .before .before .before .before .before .before .before .before .before .before .before .before .before .before .before .before .before .before .keys-in .result in
+    let f = c .before .before .before .before .before .before .before in
+    let r = f .before .before .before .before in
+    let s = r .before .before .before in
+    let n = s .before .before in
+    let h = n .before in
+    let k = h .before in
+    let d = start h in
     let o = c .before .before .decode .ensures in (
-      written-as k _ (d .args .s .now) (d .args .f .now) _ _ _ _ _ _ _ _ (c .before .before .before .before .before .before .before .before .before .before .before .before .before .before .before .before .before .before .keys-in .ensures) e (c .before .before .before .before .before .before .before .before .before .before .before .before .before .before .before .before .number16 .ensures .0) (q .file) (c .before .before .before .before .before .before .before .before .before .before .before .before .before .before .sum-rows .ensures) (c .before .before .before .before .before .before .before .before .before .before .before .read-sums .ensures) (c .before .before .before .before .before .before .before .fill-rows .ensures) (d .args .marks .now) _ (o .0),
+      written-as (k .keys-in .result) _ (d .args .s .now) (d .args .f .now) _ _ _ _ _ _ _ _ (k .keys-in .ensures) (code-is h) (n .item-count .ensures .0) (d .pre .files .file) (s .sum-rows .ensures) (r .read-sums .ensures) (f .fill-rows .ensures) (d .args .marks .now) _ (o .0),
       (
-        answer-as k _ (d .args .s .now) (d .args .f .now) _ _ _ _ _ _ _ _ (c .before .before .before .before .before .before .before .before .before .before .before .before .before .before .before .before .before .before .keys-in .ensures) e (c .before .before .before .before .before .before .before .before .before .before .before .before .before .before .before .before .number16 .ensures .0) (q .file) (c .before .before .before .before .before .before .before .before .before .before .before .before .before .before .sum-rows .ensures) (c .before .before .before .before .before .before .before .before .before .before .before .read-sums .ensures) (c .before .before .before .before .before .before .before .fill-rows .ensures) _ (o .1 .0),
+        answer-as (k .keys-in .result) _ (d .args .s .now) (d .args .f .now) _ _ _ _ _ _ _ _ (k .keys-in .ensures) (code-is h) (n .item-count .ensures .0) (d .pre .files .file) (s .sum-rows .ensures) (r .read-sums .ensures) (f .fill-rows .ensures) _ (o .1 .0),
         (
-          named-as k _ (d .args .s .now) (d .args .f .now) _ _ _ _ _ _ _ _ (c .before .before .before .before .before .before .before .before .before .before .before .before .before .before .before .before .before .before .keys-in .ensures) e (c .before .before .before .before .before .before .before .before .before .before .before .before .before .before .before .before .number16 .ensures .0) (q .file) (c .before .before .before .before .before .before .before .before .before .before .before .before .before .before .sum-rows .ensures) (c .before .before .before .before .before .before .before .before .before .before .before .read-sums .ensures) (c .before .before .before .before .before .before .before .fill-rows .ensures) _ (o .1 .1 .0),
-          rows-as k _ (d .args .s .now) (d .args .f .now) _ _ _ _ _ _ _ _ (c .before .before .before .before .before .before .before .before .before .before .before .before .before .before .before .before .before .before .keys-in .ensures) e (c .before .before .before .before .before .before .before .before .before .before .before .before .before .before .before .before .number16 .ensures .0) (q .file) (c .before .before .before .before .before .before .before .before .before .before .before .before .before .before .sum-rows .ensures) (c .before .before .before .before .before .before .before .before .before .before .before .read-sums .ensures) (c .before .before .before .before .before .before .before .fill-rows .ensures) _ (o .1 .1 .1),
+          named-as (k .keys-in .result) _ (d .args .s .now) (d .args .f .now) _ _ _ _ _ _ _ _ (k .keys-in .ensures) (code-is h) (n .item-count .ensures .0) (d .pre .files .file) (s .sum-rows .ensures) (r .read-sums .ensures) (f .fill-rows .ensures) _ (o .1 .1 .0),
+          rows-as (k .keys-in .result) _ (d .args .s .now) (d .args .f .now) _ _ _ _ _ _ _ _ (k .keys-in .ensures) (code-is h) (n .item-count .ensures .0) (d .pre .files .file) (s .sum-rows .ensures) (r .read-sums .ensures) (f .fill-rows .ensures) _ (o .1 .1 .1),
         ),
       ),
     )
@@ -120,19 +83,5 @@ returns c =
 pub decode-files-spec : {M : Type 1} → statement M
 decode-files-spec =
     tie.close
-    (tie.spec
-    keys-in-requires
-    code-of-requires
-    number16-requires
-    slice-aggregate-sum-rows
-    sum-rows-requires
-    slice-aggregate-read-sums
-    read-sums-requires
-    slice-aggregate-fill-rows
-    slice-aggregate-fill-rows-2
-    fill-rows-requires
-    slice-aggregate-decode
-    slice-aggregate-decode-2
-    decode-requires
-    same-length
-    returns)
+    (tie.spec (λ c κs. search needs) (λ c κs. search needs) (λ c κs. search needs) (λ c. search needs) sum-rows-requires (λ c. search needs) read-sums-requires
+    (λ c. search needs) (λ c. search needs) fill-rows-requires (λ c. search needs) (λ c. search needs) decode-requires (λ c. search needs) returns)

@@ -1,7 +1,7 @@
 -- Refused, or the file (Filing).
-use mathlib.Core.Path.{sym, _∙_, ap}
-use Rattle.files.specs.declared.Refusal.{Refusal}
+use mathlib.Core.Path.{_∙_}
 use Rattle.scheme.specs.Calls.{replaceWrites}
+use Rattle.checks.proofs.Checking.{replaceable}
 use Rattle.files.proofs.Passing.{given, kept}
 use borrow.Author.Needs.{needs}
 use Rattle.scheme.proofs.replace.Statement.{statement}
@@ -15,7 +15,7 @@ unfolding replaceWrites
 returns c = (c .before .before .replace-refusal .ensures, kept _ _ (c .before .before .replace-refusal .ensures) _ _ (c .if1 .taken))
 
 write-replaced-requires : tie.Need-write-replaced-requires
-write-replaced-requires c κs = ap (λ (x : Refusal). x .number) (sym (c .before .before .before .replace-refusal .ensures)) ∙ c .before .if1 .left
+write-replaced-requires c κs = replaceable _ _ _ _ _ _ _ (c .before .before .before .replace-refusal .ensures) (c .before .if1 .left)
 
 same-length : tie.Need-same-length
 same-length c = search needs

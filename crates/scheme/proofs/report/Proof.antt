@@ -1,11 +1,10 @@
 -- Refused, or decoded (Filing); and demand 3 (Claiming).
-use mathlib.Core.Path.{sym, _∙_, ap}
+use mathlib.Core.Path.{_∙_}
 use native.Mathlib.Omega.{arith}
 use lib.ListN.{length}
 use Rattle.cipher.proofs.Xor.{bytes-from}
-use Rattle.files.specs.declared.Refusal.{Refusal}
 use Rattle.scheme.specs.Calls.{reportWrites, reportAnswer, reportNamed, reportRows}
-use Rattle.scheme.proofs.Checking.{reportable}
+use Rattle.checks.proofs.Checking.{reportable}
 use Rattle.files.proofs.Passing.{given, kept}
 use Rattle.scheme.proofs.Claiming.{claim}
 use borrow.Author.Needs.{needs}
@@ -23,7 +22,7 @@ returns c =
     (e, (kept _ _ e _ _ t, (kept _ _ e _ _ t, (kept _ _ e _ _ t, (kept _ _ e _ _ t, λ z. absurd (t z))))))
 
 decode-files-requires : tie.Need-decode-files-requires
-decode-files-requires c κs = ap (λ (x : Refusal). x .number) (sym (c .before .before .before .report-refusal .ensures)) ∙ c .before .if1 .left
+decode-files-requires c κs = reportable _ _ _ _ _ (c .before .before .before .report-refusal .ensures) (c .before .if1 .left)
 
 same-length : tie.Need-same-length
 same-length c = search needs

@@ -1,7 +1,7 @@
 -- Refused, or the file (Filing).
-use mathlib.Core.Path.{sym, _∙_, ap}
-use Rattle.files.specs.declared.Refusal.{Refusal}
+use mathlib.Core.Path.{_∙_}
 use Rattle.scheme.specs.Calls.{tagWrites}
+use Rattle.checks.proofs.Checking.{taggable}
 use Rattle.files.proofs.Passing.{given, kept}
 use borrow.Author.Needs.{needs}
 use Rattle.scheme.proofs.tag.Statement.{statement}
@@ -15,7 +15,7 @@ unfolding tagWrites
 returns c = (c .before .before .tag-refusal .ensures, kept _ _ (c .before .before .tag-refusal .ensures) _ _ (c .if1 .taken))
 
 write-tag-file-requires : tie.Need-write-tag-file-requires
-write-tag-file-requires c κs = ap (λ (x : Refusal). x .number) (sym (c .before .before .before .tag-refusal .ensures)) ∙ c .before .if1 .left
+write-tag-file-requires c κs = taggable _ _ _ _ _ (c .before .before .before .tag-refusal .ensures) (c .before .if1 .left)
 
 same-length : tie.Need-same-length
 same-length c = search needs

@@ -1,7 +1,7 @@
 -- Refused, or the tags compared (Filing).
-use mathlib.Core.Path.{sym, _∙_, ap}
-use Rattle.files.specs.declared.Refusal.{Refusal}
+use mathlib.Core.Path.{_∙_}
 use Rattle.scheme.specs.Calls.{verifyYes}
+use Rattle.checks.proofs.Checking.{comparable}
 use Rattle.files.proofs.Passing.{given, kept}
 use borrow.Author.Needs.{needs}
 use Rattle.scheme.proofs.verify.Statement.{statement}
@@ -15,7 +15,7 @@ unfolding verifyYes
 returns c = (c .before .before .verify-refusal .ensures, kept _ _ (c .before .before .verify-refusal .ensures) _ _ (c .if1 .taken))
 
 tags-equal-requires : tie.Need-tags-equal-requires
-tags-equal-requires c κs = ap (λ (x : Refusal). x .number) (sym (c .before .before .verify-refusal .ensures)) ∙ c .if1 .left
+tags-equal-requires c κs = comparable _ _ _ _ (c .before .before .verify-refusal .ensures) (c .if1 .left)
 
 returns-2 : tie.Need-returns-2
 unfolding verifyYes

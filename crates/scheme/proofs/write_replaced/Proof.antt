@@ -1,124 +1,87 @@
 -- The sums of the tags, both hashes added, then the file of those sums (Filing).
-use mathlib.Core.Path.{refl, ap, _∙_}
-use Prim.Native.Nat.{ℕ}
+use mathlib.Core.Path.{_≡_, ap, _∙_}
+use mathlib.Core.Bool.{true}
+use Prim.Native.Nat.{ℕ, _*_, _≤_}
 use native.Mathlib.Omega.{arith}
 use lib.ListN.{length}
 use Rattle.sizes.specs.Sizes.{known, familyOf}
 use Rattle.sizes.proofs.Laws.{tags-few}
-use Rattle.files.specs.TagFile.{fileSize, codeOf, countOf}
-use Rattle.scheme.proofs.Checking.{replaceable, file-code, file-count}
-use Rattle.scheme.proofs.Filing.{replaced-made}
+use Rattle.files.specs.declared.tagfile.Head.{Head}
+use Rattle.files.specs.TagFile.{fileSize, codeOf, countOf, headOf}
+use Rattle.checks.proofs.Checking.{file-code, file-count}
 use Rattle.tagging.proofs.Summing.{added-ready}
+use Rattle.scheme.proofs.Filing.{replaced-made}
 use borrow.Author.Needs.{needs}
 use Rattle.scheme.proofs.write_replaced.Statement.{statement}
 use Rattle.scheme.proofs.write_replaced.Tie as tie
 
-keys-in-requires : tie.Need-keys-in-requires
-keys-in-requires c κs =
-    let d = c .before .before .before .before .before in
-    let p = replaceable (d .args .keys .now) (d .args .f .now) (d .args .j) (d .args .old .now) (d .args .new .now) (length (d .args .out .now)) _ refl (d .pre) in
-    omega (arith, p .keys48)
+-- the head read is the file's
+module _ (c : tie.After-head-of) where
+  abbrev start : tie.Start
+  start = c .before .before .before .before .before .before .before .before
 
-code-of-requires : tie.Need-code-of-requires
-code-of-requires c κs =
-    let d = c .before .before .before .before .before .before .before in
-    let p = replaceable (d .args .keys .now) (d .args .f .now) (d .args .j) (d .args .old .now) (d .args .new .now) (length (d .args .out .now)) _ refl (d .pre) in
-    omega (arith, p .file .long)
+  code-is : c .head-of .result .code ≡ codeOf (start .args .f .now)
+  unfolding headOf
+  code-is = ap (λ (h : Head). h .code) (c .head-of .ensures .0)
 
-number16-requires : tie.Need-number16-requires
-number16-requires c κs =
-    let d = c .before .before .before .before .before .before .before .before in
-    let p = replaceable (d .args .keys .now) (d .args .f .now) (d .args .j) (d .args .old .now) (d .args .new .now) (length (d .args .out .now)) _ refl (d .pre) in
-    omega (arith, p .file .long)
+  count-is : c .head-of .result .count ≡ countOf (start .args .f .now)
+  unfolding headOf
+  count-is = ap (λ (h : Head). h .count) (c .head-of .ensures .0)
 
-slice-aggregate-read-sums : tie.Need-slice-aggregate-read-sums
-slice-aggregate-read-sums c = search needs
+  code-known : known (c .head-of .result .code) ≡ true
+  code-known = ap known code-is ∙ file-code _ (start .pre .file)
 
+  few : 16 * familyOf (c .head-of .result .code) .tags ≤ 1312
+  few = omega (arith, tags-few (c .head-of .result .code))
+
+-- each step leaves the array's length
 read-sums-requires : tie.Need-read-sums-requires
-read-sums-requires c κs =
-    let d = c .before .before .before .before .before .before .before .before .before .before in
-    let p = replaceable (d .args .keys .now) (d .args .f .now) (d .args .j) (d .args .old .now) (d .args .new .now) (length (d .args .out .now)) _ refl (d .pre) in
-    (p .six, omega (arith, tags-few (codeOf (d .args .f .now))))
-
-prepare-requires : tie.Need-prepare-requires
-prepare-requires c κs = search needs
-
-slice-aggregate-add-item : tie.Need-slice-aggregate-add-item
-slice-aggregate-add-item c = search needs
+read-sums-requires c κs = (start (c .before) .pre .file, omega (arith, few (c .before), ap (λ (x : ℕ). familyOf x .tags) (code-is (c .before))))
 
 add-item-requires : tie.Need-add-item-requires
 add-item-requires c κs =
-    let d = c .before .before .before .before .before .before .before .before .before .before .before .before .before .before in
-    let p = replaceable (d .args .keys .now) (d .args .f .now) (d .args .j) (d .args .old .now) (d .args .new .now) (length (d .args .out .now)) _ refl (d .pre) in
-    let e = c .before .before .before .before .before .before .code-of .ensures in
-    let t = ap (λ (x : ℕ). familyOf x .tags) e in
-    let m = tags-few (codeOf (d .args .f .now)) in
-    (ap known e ∙ file-code _ (p .file), omega (arith, t, m, c .before .before .before .read-sums .ensures .size))
-
-slice-aggregate-add-item-2 : tie.Need-slice-aggregate-add-item-2
-slice-aggregate-add-item-2 c = search needs
+    let r = c .before .before .before in
+    let h = r .before .before in
+    (code-known h, omega (arith, few h, r .read-sums .ensures .size))
 
 add-item-requires-2 : tie.Need-add-item-requires-2
 add-item-requires-2 c κs =
-    let d = c .before .before .before .before .before .before .before .before .before .before .before .before .before .before .before .before .before in
-    let p = replaceable (d .args .keys .now) (d .args .f .now) (d .args .j) (d .args .old .now) (d .args .new .now) (length (d .args .out .now)) _ refl (d .pre) in
-    let e = c .before .before .before .before .before .before .before .before .before .code-of .ensures in
-    let t = ap (λ (x : ℕ). familyOf x .tags) e in
-    let m = tags-few (codeOf (d .args .f .now)) in
-    let k = c .before .before .before .before .before .before .before .before .before .before .before .keys-in .result in
-    (ap known e ∙ file-code _ (p .file), omega (arith, t, m, c .before .before .before .before .before .before .read-sums .ensures .size, c .before .before .add-item .ensures .size))
-
-slice-aggregate-write-file : tie.Need-slice-aggregate-write-file
-slice-aggregate-write-file c = search needs
+    let a = c .before .before in
+    let r = a .before .before .before .before in
+    let h = r .before .before in
+    (code-known h, omega (arith, few h, r .read-sums .ensures .size, a .add-item .ensures .size))
 
 write-file-requires : tie.Need-write-file-requires
-unfolding countOf
 write-file-requires c κs =
-    let d = c .before .before .before .before .before .before .before .before .before .before .before .before .before .before .before .before .before .before .before .before .before in
-    let p = replaceable (d .args .keys .now) (d .args .f .now) (d .args .j) (d .args .old .now) (d .args .new .now) (length (d .args .out .now)) _ refl (d .pre) in
-    let e = c .before .before .before .before .before .before .before .before .before .before .before .before .before .code-of .ensures in
-    let t = ap (λ (x : ℕ). familyOf x .tags) e in
-    let m = tags-few (codeOf (d .args .f .now)) in
-    let k = c .before .before .before .before .before .before .before .before .before .before .before .before .before .before .before .keys-in .result in
-    let r = c .before .before .before .before .before .before .before .before .prepare .ensures in
-    let q = ap (λ (x : ℕ). familyOf x .items) e in
-    let w = ap fileSize e in (
-      ap known e ∙ file-code _ (p .file),
+    let b = c .before .before .before in
+    let a = b .before .before .before in
+    let r = a .before .before .before .before in
+    let h = r .before .before in
+    let p = start h .pre in (
+      code-known h,
       (
-        omega (arith, q, file-count _ (p .file), c .before .before .before .before .before .before .before .before .before .before .before .before .number16 .ensures .0),
-        (omega (arith, t, m, c .before .before .before .before .before .before .before .before .before .before .read-sums .ensures .size, c .before .before .before .before .before .before .add-item .ensures .size, c .before .before .before .add-item2 .ensures .size), omega (arith, w, p .fits)),
+        omega (arith, count-is h, file-count _ (p .file), ap (λ (x : ℕ). familyOf x .items) (code-is h)),
+        (omega (arith, few h, r .read-sums .ensures .size, a .add-item .ensures .size, b .add-item2 .ensures .size), omega (arith, p .fits, ap fileSize (code-is h))),
       ),
     )
 
-same-length : tie.Need-same-length
-same-length c = search needs
-
 returns : tie.Need-returns
-unfolding countOf
 returns c =
-    let d = c .before .before .before .before .before .before .before .before .before .before .before .before .before .before .before .before .before .before .before .before .before .before .before .before in
-    let k = c .before .before .before .before .before .before .before .before .before .before .before .before .before .before .before .before .before .before .keys-in .result in
-    let r = c .before .before .before .before .before .before .before .before .before .before .before .prepare .ensures in
-    replaced-made k _ (d .args .f .now) (c .before .before .before .before .before .before .before .before .before .before .before .before .before .before .before .before .code-of .result) (c .before .before .before .before .before .before .before .before .before .before .before .before .before .before .before .number16 .result) (d .args .j) (d .args .old .now) (d .args .new .now) _ _ _ _ (d .args .out .now) _
-    (c .before .before .before .before .before .before .before .before .before .before .before .before .before .before .before .before .before .before .keys-in .ensures) (c .before .before .before .before .before .before .before .before .before .before .before .before .before .before .before .before .code-of .ensures) (c .before .before .before .before .before .before .before .before .before .before .before .before .before .before .before .number16 .ensures .0)
-    (c .before .before .before .before .before .before .before .before .before .before .before .before .before .read-sums .ensures) (added-ready (c .before .before .before .before .before .before .before .before .before .before .before .before .before .before .before .before .code-of .result) (d .args .j) (k .item) _ (d .args .old .now) _ _ r (c .before .before .before .before .before .before .before .before .before .add-item .ensures)) (added-ready (c .before .before .before .before .before .before .before .before .before .before .before .before .before .before .before .before .code-of .result) (d .args .j) (k .item) _ (d .args .new .now) _ _ r (c .before .before .before .before .before .before .add-item2 .ensures))
+    let b = c .before .before .before .before .before .before in
+    let a = b .before .before .before in
+    let m = a .before .before in
+    let r = m .before .before in
+    let h = r .before .before in
+    let k = h .before .before in
+    let d = start h in
+    replaced-made (k .keys-in .result) _ (d .args .f .now) (h .head-of .result .code) (h .head-of .result .count) (d .args .j) (d .args .old .now) (d .args .new .now) _ _ _ _ (d .args .out .now) _
+    (k .keys-in .ensures) (code-is h) (count-is h) (r .read-sums .ensures)
+    (added-ready (h .head-of .result .code) (d .args .j) (k .keys-in .result .item) _ (d .args .old .now) _ _ (m .prepare .ensures) (a .add-item .ensures))
+    (added-ready (h .head-of .result .code) (d .args .j) (k .keys-in .result .item) _ (d .args .new .now) _ _ (m .prepare .ensures) (b .add-item2 .ensures))
     (c .before .before .write-file .ensures)
 
 pub write-replaced-spec : {M : Type 1} → statement M
 write-replaced-spec =
     tie.close
-    (tie.spec
-    keys-in-requires
-    code-of-requires
-    number16-requires
-    slice-aggregate-read-sums
-    read-sums-requires
-    prepare-requires
-    slice-aggregate-add-item
-    add-item-requires
-    slice-aggregate-add-item-2
-    add-item-requires-2
-    slice-aggregate-write-file
-    write-file-requires
-    same-length
-    returns)
+    (tie.spec (λ c κs. search needs) (λ c κs. search needs) (λ c. search needs) read-sums-requires (λ c κs. search needs) (λ c. search needs) add-item-requires
+    (λ c. search needs) add-item-requires-2 (λ c. search needs) write-file-requires (λ c. search needs) returns)

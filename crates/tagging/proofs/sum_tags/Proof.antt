@@ -6,7 +6,7 @@ use native.Mathlib.Omega.{arith}
 use lib.ListN.{length}
 use Rattle.incidence.specs.Sum.{rowSum}
 use Rattle.sizes.specs.Sizes.{familyOf}
-use Rattle.files.specs.Message.{behind, item, itemCount}
+use Rattle.files.specs.Message.{behind, item}
 use Rattle.files.proofs.Messages.{behind-more}
 use Rattle.keyed.specs.Keyed.{itemHashBy}
 use Rattle.sums.specs.Adding.{Holds}
@@ -26,8 +26,8 @@ abbrev μ-loop : tie.MeasureT-loop
 prepare-requires : tie.Need-prepare-requires Inv-loop μ-loop
 prepare-requires c κs = search needs
 
-number16-requires : tie.Need-number16-requires Inv-loop μ-loop
-number16-requires c κs = search needs
+item-count-requires : tie.Need-item-count-requires Inv-loop μ-loop
+item-count-requires c κs = search needs
 
 first-requires : tie.Need-first-requires Inv-loop μ-loop
 first-requires c κs = search needs
@@ -47,20 +47,18 @@ loop-holds c =
     )
 
 add-start : tie.Need-add-start Inv-loop μ-loop
-unfolding itemCount
 add-start c =
     let l = c .before .before .before in
     let d = l .before .before .before .before .before .before .before in
-    let f = fits-here (d .args .s .now) (d .pre .1 .0 .2) (l .before .before .number16 .result) (l .loop .c .at) (l .loop .c .passed) (l .before .before .number16 .ensures .0) (l .loop .inv .1) (c .before .if1 .taken) in
+    let f = fits-here (d .args .s .now) (d .pre .1 .0 .2) (l .before .before .item-count .result) (l .loop .c .at) (l .loop .c .passed) (l .before .before .item-count .ensures .0) (l .loop .inv .1) (c .before .if1 .taken) in
     omega (arith, f .head, d .pre .1 .0 .1)
 
 next-requires : tie.Need-next-requires Inv-loop μ-loop
-unfolding itemCount
 next-requires c κs =
     let l = c .before .before .before in
     let d = l .before .before .before .before .before .before .before in
-    let f = fits-here (d .args .s .now) (d .pre .1 .0 .2) (l .before .before .number16 .result) (l .loop .c .at) (l .loop .c .passed) (l .before .before .number16 .ensures .0) (l .loop .inv .1) (c .before .if1 .taken) in
-    (f .head, omega (arith, l .before .before .number16 .ensures .1, c .before .if1 .taken), d .pre .1 .0 .1)
+    let f = fits-here (d .args .s .now) (d .pre .1 .0 .2) (l .before .before .item-count .result) (l .loop .c .at) (l .loop .c .passed) (l .before .before .item-count .ensures .0) (l .loop .inv .1) (c .before .if1 .taken) in
+    (f .head, omega (arith, l .before .before .item-count .ensures .1, c .before .if1 .taken), d .pre .1 .0 .1)
 
 sub-add-item : tie.Need-sub-add-item Inv-loop μ-loop
 sub-add-item c = omega (arith, c .before .next .ensures .0)
@@ -69,11 +67,10 @@ part-add-item-start : tie.Need-part-add-item-start Inv-loop μ-loop
 part-add-item-start c = omega (arith, c .before .next .ensures .0)
 
 part-add-item-end : tie.Need-part-add-item-end Inv-loop μ-loop
-unfolding itemCount
 part-add-item-end c =
     let l = c .before .before .before .before .before in
     let d = l .before .before .before .before .before .before .before in
-    let f = fits-here (d .args .s .now) (d .pre .1 .0 .2) (l .before .before .number16 .result) (l .loop .c .at) (l .loop .c .passed) (l .before .before .number16 .ensures .0) (l .loop .inv .1) (c .before .before .before .if1 .taken) in
+    let f = fits-here (d .args .s .now) (d .pre .1 .0 .2) (l .before .before .item-count .result) (l .loop .c .at) (l .loop .c .passed) (l .before .before .item-count .ensures .0) (l .loop .inv .1) (c .before .before .before .if1 .taken) in
     omega (arith, f .room, c .before .next .ensures .0)
 
 add-item-requires : tie.Need-add-item-requires Inv-loop μ-loop
@@ -106,14 +103,14 @@ same-length : tie.Need-same-length Inv-loop μ-loop
 same-length c = search needs
 
 returns : tie.Need-returns Inv-loop μ-loop
-unfolding hashes tagSum itemCount
+unfolding hashes tagSum
 returns c =
     let l = c .before .before in
     let d = l .before .before .before .before .before .before .before in
     let F = familyOf (d .args .code) in
     let p = l .before .before .before .prepare .ensures in
-    let e : l .loop .c .passed ≡ l .before .before .number16 .result = omega (arith, l .loop .inv .0) in
-    summed-ready F (F .tags) (F .rowOfTag) (d .args .keys .item) _ (item (d .args .s .now)) (l .loop .c .passed) _ _ _ p (e ∙ l .before .before .number16 .ensures .0) (l .loop .inv .3)
+    let e : l .loop .c .passed ≡ l .before .before .item-count .result = omega (arith, l .loop .inv .0) in
+    summed-ready F (F .tags) (F .rowOfTag) (d .args .keys .item) _ (item (d .args .s .now)) (l .loop .c .passed) _ _ _ p (e ∙ l .before .before .item-count .ensures .0) (l .loop .inv .3)
 
 pub sum-tags-spec : {M : Type 1} → statement M
 sum-tags-spec =
@@ -122,7 +119,7 @@ sum-tags-spec =
     Inv-loop
     μ-loop
     prepare-requires
-    number16-requires
+    item-count-requires
     first-requires
     loop-holds
     add-start

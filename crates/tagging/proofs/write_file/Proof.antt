@@ -1,129 +1,91 @@
 -- Header, tags and MAC, one behind the other (Writing).
 use mathlib.Core.Path.{_≡_}
-use Prim.Native.Nat.{_+_, _*_, _≤_}
+use mathlib.Core.List.{List, _++_}
+use Prim.Native.Nat.{ℕ, _+_, _-_, _*_, _≤_}
 use native.Mathlib.Omega.{arith}
-use lib.ListN.{length, length-take, length-drop}
+use lib.ListN.{length, take, drop, length-take, length-drop}
 use Rattle.cipher.specs.Aes.{encipher}
 use Rattle.cipher.proofs.Loop.{part-back}
 use Rattle.sizes.proofs.Laws.{code-byte, items-few, tags-few}
 use Rattle.keyed.specs.Keyed.{tagsBy}
 use Rattle.keyed.proofs.KeyedLaws.{tags-expanded}
 use Rattle.tagging.proofs.Writing.{file-size, tags-length, headed-length, back-length, file-written}
+use borrow.Rule.Slice.PartMut.{putMid}
 use borrow.Author.Needs.{needs}
 use Rattle.tagging.proofs.write_file.Statement.{statement}
 use Rattle.tagging.proofs.write_file.Tie as tie
 
-tags-requires : tie.Need-tags-requires
-tags-requires c κs = search needs
+-- the file fits
+room : (c : tie.After-tags) → 8 + 16 * c .tags .result + 16 ≤ length (c .before .before .before .args .out .now)
+room c =
+    let d = c .before .before .before in
+    omega (arith, file-size (d .args .head .code) _ (c .tags .ensures), d .pre .1 .1 .1)
 
-cast-put-header : tie.Need-cast-put-header
-cast-put-header c =
-    let d = c .before .before .before .before .before .before in
-    omega (arith, code-byte (d .args .code) (d .pre .0))
+few : (c : tie.After-tags) → c .tags .result ≤ 82
+few c = omega (arith, c .tags .ensures, tags-few (c .before .before .before .args .head .code))
 
-cast-put-header-2 : tie.Need-cast-put-header-2
-cast-put-header-2 c =
-    let d = c .before .before .before .before .before .before in
-    omega (arith, items-few (d .args .code), d .pre .1 .0)
+-- the header leaves the length
+headed : (c : tie.After-put-header) → length (c .put-header .last .0) ≡ length (c .before .before .before .before .before .before .before .args .out .now)
+headed c =
+    let t = c .before .before .before .before in
+    let d = t .before .before .before in
+    headed-length (d .args .head) (d .args .out .now) _ (omega (arith, room t)) (c .put-header .ensures)
+
+-- and there is room for the tags and the MAC behind it
+behind : (c : tie.After-put-header) → 8 + 16 * c .before .before .before .before .tags .result + 16 ≤ length (c .put-header .last .0)
+behind c = omega (arith, room (c .before .before .before .before), headed c)
 
 put-header-requires : tie.Need-put-header-requires
 put-header-requires c κs =
-    let d = c .before .before .before .before .before .before in
-    let t = c .before .before .before .tags .result in
-    let z = file-size (d .args .code) t (c .before .before .before .tags .ensures) in
-    omega (arith, z, d .pre .1 .1 .1)
+    let t = c .before .before .before in
+    let d = t .before .before .before in
+    (omega (arith, code-byte (d .args .head .code) (d .pre .0)), omega (arith, items-few (d .args .head .code), d .pre .1 .0), omega (arith, room t))
 
-key-expansion-requires : tie.Need-key-expansion-requires
-key-expansion-requires c κs = search needs
+-- the header and the tags behind it
+module _ (c : tie.After-write-tags) where
+  abbrev at : tie.After-put-header
+  at = c .before .before .before .before .before
 
-sub-write-tags : tie.Need-sub-write-tags
-sub-write-tags c =
-    let d = c .before .before .before .before .before .before .before .before .before .before in
-    let t = c .before .before .before .before .before .before .before .tags .result in
-    let z = file-size (d .args .code) t (c .before .before .before .before .before .before .before .tags .ensures) in
-    let o = c .before .before .before .put-header .last .0 in
-    let l = headed-length (d .args .code) (d .args .n) (d .args .out .now) o (omega (arith, d .pre .1 .1 .1)) (c .before .before .before .put-header .ensures) in
-    omega (arith, z, l, d .pre .1 .1 .1)
+  abbrev start : tie.Start
+  start = at .before .before .before .before .before .before .before
 
-part-write-tags-start : tie.Need-part-write-tags-start
-part-write-tags-start c =
-    let d = c .before .before .before .before .before .before .before .before .before .before in
-    let t = c .before .before .before .before .before .before .before .tags .result in
-    let z = file-size (d .args .code) t (c .before .before .before .before .before .before .before .tags .ensures) in
-    let o = c .before .before .before .put-header .last .0 in
-    let l = headed-length (d .args .code) (d .args .n) (d .args .out .now) o (omega (arith, d .pre .1 .1 .1)) (c .before .before .before .put-header .ensures) in
-    omega (arith, z, l, d .pre .1 .1 .1)
+  abbrev tags : List ℕ
+  tags = tagsBy (encipher (start .args .keys .tag)) (start .args .sums .now) (at .before .before .before .before .tags .result)
 
-part-write-tags-end : tie.Need-part-write-tags-end
-part-write-tags-end c = search needs
+  key-long : length (start .args .keys .tag) ≡ 16
+  key-long = search needs
 
-write-tags-requires : tie.Need-write-tags-requires
-write-tags-requires c κs =
-    let d = c .before .before .before .before .before .before .before .before .before .before .before in
-    let t = c .before .before .before .before .before .before .before .before .tags .result in
-    let z = file-size (d .args .code) t (c .before .before .before .before .before .before .before .before .tags .ensures) in
-    let o = c .before .before .before .before .put-header .last .0 in
-    let l = headed-length (d .args .code) (d .args .n) (d .args .out .now) o (omega (arith, d .pre .1 .1 .1)) (c .before .before .before .before .put-header .ensures) in
-    (search needs, simp (length-take, length-drop) (omega (arith, z, l, d .pre .1 .1 .1)))
+  written :
+      putMid 8 (length (at .put-header .last .0) - 8) (at .put-header .last .0) (c .write-tags .last .1 .1 .1 .0)
+      ≡ take 8 (at .put-header .last .0) ++ (tags ++ drop (8 + 16 * at .before .before .before .before .tags .result) (at .put-header .last .0))
 
-mul-seal : tie.Need-mul-seal
-mul-seal c =
-    let d = c .before .before .before .before .before .before .before .before .before .before .before .before .before .before .before in
-    let t = c .before .before .before .before .before .before .before .before .before .before .before .before .tags .result in
-    let z = file-size (d .args .code) t (c .before .before .before .before .before .before .before .before .before .before .before .before .tags .ensures) in
-    omega (arith, c .before .before .before .before .before .before .before .before .before .before .before .before .tags .ensures, tags-few (d .args .code))
-
-add-seal : tie.Need-add-seal
-add-seal c =
-    let d = c .before .before .before .before .before .before .before .before .before .before .before .before .before .before .before in
-    let t = c .before .before .before .before .before .before .before .before .before .before .before .before .tags .result in
-    let z = file-size (d .args .code) t (c .before .before .before .before .before .before .before .before .before .before .before .before .tags .ensures) in
-    omega (arith, c .before .before .before .before .before .before .before .before .before .before .before .before .tags .ensures, tags-few (d .args .code))
+  written =
+      part-back (at .put-header .last .0) _ tags 8 (16 * at .before .before .before .before .tags .result) (omega (arith, behind at))
+      (tags-expanded (start .args .keys .tag) _ _ _ _ _ (c .before .before .key-expansion .ensures) (c .write-tags .ensures))
 
 seal-requires : tie.Need-seal-requires
 seal-requires c κs =
-    let d = c .before .before .before .before .before .before .before .before .before .before .before .before .before .before .before in
-    let t = c .before .before .before .before .before .before .before .before .before .before .before .before .tags .result in
-    let z = file-size (d .args .code) t (c .before .before .before .before .before .before .before .before .before .before .before .before .tags .ensures) in
-    let o = c .before .before .before .before .before .before .before .before .put-header .last .0 in
-    let l = headed-length (d .args .code) (d .args .n) (d .args .out .now) o (omega (arith, d .pre .1 .1 .1)) (c .before .before .before .before .before .before .before .before .put-header .ensures) in
-    let k : length (d .args .keys .tag) ≡ 16 = search needs in
-    let r : 8 + 16 * t ≤ length o = omega (arith, d .pre .1 .1 .1) in
-    let e = part-back o _ (tagsBy (encipher (d .args .keys .tag)) (d .args .sums .now) t) 8 (16 * t) r (tags-expanded (d .args .keys .tag) _ _ _ _ t (c .before .before .before .before .before .key-expansion .ensures) (c .before .before .before .write-tags .ensures)) in
-    let q = back-length o _ (tagsBy (encipher (d .args .keys .tag)) (d .args .sums .now) t) 8 (16 * t) r (tags-length (d .args .keys .tag) (d .args .sums .now) t k) e in
-    omega (arith, z, l, q, d .pre .1 .1 .1)
-
-same-length : tie.Need-same-length
-same-length c = search needs
+    let w = c .before .before .before in
+    let a = at w in
+    let r : 8 + 16 * a .before .before .before .before .tags .result ≤ length (a .put-header .last .0) = omega (arith, behind a) in
+    let l = back-length (a .put-header .last .0) _ (tags w) 8 _ r (tags-length _ _ _ (key-long w)) (written w) in
+    omega (arith, l, behind a)
 
 returns : tie.Need-returns
 returns c =
-    let d = c .before .before .before .before .before .before .before .before .before .before .before .before .before .before .before .before .before .before in
-    let t = c .before .before .before .before .before .before .before .before .before .before .before .before .before .before .before .tags .result in
-    let z = file-size (d .args .code) t (c .before .before .before .before .before .before .before .before .before .before .before .before .before .before .before .tags .ensures) in
-    let o = c .before .before .before .before .before .before .before .before .before .before .before .put-header .last .0 in
-    let l = headed-length (d .args .code) (d .args .n) (d .args .out .now) o (omega (arith, d .pre .1 .1 .1)) (c .before .before .before .before .before .before .before .before .before .before .before .put-header .ensures) in
-    let k : length (d .args .keys .tag) ≡ 16 = search needs in
-    let r : 8 + 16 * t ≤ length o = omega (arith, d .pre .1 .1 .1) in
-    let e = part-back o _ (tagsBy (encipher (d .args .keys .tag)) (d .args .sums .now) t) 8 (16 * t) r (tags-expanded (d .args .keys .tag) _ _ _ _ t (c .before .before .before .before .before .before .before .before .key-expansion .ensures) (c .before .before .before .before .before .before .write-tags .ensures)) in
-    file-written (d .args .keys) (d .args .code) (d .args .n) t (d .args .sums .now) (d .args .out .now) o _ _ k (c .before .before .before .before .before .before .before .before .before .before .before .before .before .before .before .tags .ensures) (d .pre .1 .1 .1)
-    (c .before .before .before .before .before .before .before .before .before .before .before .put-header .ensures) e (c .before .before .seal .ensures)
+    let w = c .before .before .before .before .before .before in
+    let a = at w in
+    let t = a .before .before .before .before in
+    let d = start w in
+    file-written (d .args .keys) (d .args .head) (t .tags .result) (d .args .sums .now) (d .args .out .now) (a .put-header .last .0) _ _ (key-long w) (t .tags .ensures)
+    (d .pre .1 .1 .1) (a .put-header .ensures) (written w) (c .before .before .seal .ensures)
 
 pub write-file-spec : {M : Type 1} → statement M
 write-file-spec =
     tie.close
-    (tie.spec
-    tags-requires
-    cast-put-header
-    cast-put-header-2
-    put-header-requires
-    key-expansion-requires
-    sub-write-tags
-    part-write-tags-start
-    part-write-tags-end
-    write-tags-requires
-    mul-seal
-    add-seal
-    seal-requires
-    same-length
-    returns)
+    (tie.spec (λ c κs. search needs) put-header-requires (λ c κs. search needs) (λ c. omega (arith, behind (c .before .before .before)))
+    (λ c. omega (arith, behind (c .before .before .before))) (λ c. search needs)
+    (λ c κs. (search needs, simp (length-take, length-drop) (omega (arith, behind (c .before .before .before .before)))))
+    (λ c. omega (arith, few (c .before .before .before .before .before .before .before .before .before .before .before .before)))
+    (λ c. omega (arith, few (c .before .before .before .before .before .before .before .before .before .before .before .before)))
+    seal-requires (λ c. search needs) returns)

@@ -4,20 +4,20 @@ use Prim.Native.Nat.{_-_, _≤_}
 use native.Mathlib.Omega.{arith}
 use lib.ListN.{length}
 use Rattle.files.specs.Message.{number16, itemCount, behind, refuseItems}
-use Rattle.files.proofs.Messages.{fits-so, behind-more, items-more, items-stop, items-whole, items-over}
+use Rattle.files.proofs.Messages.{headed, fits-so, behind-more, items-more, items-stop, items-whole, items-over}
 use Rattle.files.specs.Refusals.{none, first}
 use borrow.Author.Needs.{needs}
 use Rattle.files.proofs.message.check_items.Statement.{statement}
 use Rattle.files.proofs.message.check_items.Tie as tie
 
 abbrev Inv-loop : tie.InvT-loop
-Inv-loop s n c₀ c = (c .passed ≤ n) × (c .at ≤ length s) × (refuseItems s (c .passed) ≡ none) × (c .at ≡ behind s (c .passed))
+Inv-loop s n c₀ c = (c .passed ≤ n) × (c .at ≤ length s) × (refuseItems s (c .passed) ≡ none) × (c .at ≡ behind s (c .passed)) × (length s ≤ 65536)
 
 abbrev μ-loop : tie.MeasureT-loop
 μ-loop s n c₀ c = n - c .passed
 
-number16-requires : tie.Need-number16-requires Inv-loop μ-loop
-number16-requires c κs = search needs
+item-count-requires : tie.Need-item-count-requires Inv-loop μ-loop
+item-count-requires c κs = omega (arith, headed _ (c .before .pre))
 
 first-requires : tie.Need-first-requires Inv-loop μ-loop
 first-requires c κs = search needs
@@ -26,7 +26,9 @@ loop-holds : tie.Need-loop-holds Inv-loop μ-loop
 unfolding refuseItems behind
 loop-holds c =
     let e = c .first .ensures in
-    (omega arith, omega arith, ap (refuseItems (c .before .before .before .args .s .now)) (e .1), e .0 ∙ ap (behind (c .before .before .before .args .s .now)) (sym (e .1)))
+    let d = c .before .before .before in
+    let l = headed (d .args .s .now) (d .pre) in
+    (omega arith, omega (arith, l), ap (refuseItems (d .args .s .now)) (e .1), e .0 ∙ ap (behind (d .args .s .now)) (sym (e .1)), l .1)
 
 fits-requires : tie.Need-fits-requires Inv-loop μ-loop
 fits-requires c κs = search needs
@@ -36,7 +38,7 @@ next-requires c κs =
     let l = c .before .before .before .before in
     let s = l .before .before .before .before .args .s .now in
     let f = fits-so s (l .loop .c .at) (sym (c .before .fits2 .ensures) ∙ c .if2 .taken) in
-    (f .head, omega (arith, l .before .before .number16 .ensures .1), search needs)
+    (f .head, omega (arith, l .before .before .item-count .ensures .1), search needs)
 
 loop-less : tie.Need-loop-less Inv-loop μ-loop
 loop-less c = search needs
@@ -53,35 +55,33 @@ loop-again c =
       omega (arith, f .room, r .0),
       ap (refuseItems s) (r .1) ∙ items-more s k at _ (l .loop .inv .2) (l .loop .inv .3) (c .before .before .fits2 .ensures) (c .before .if2 .taken),
       r .0 ∙ behind-more s k at (l .loop .inv .3) ∙ ap (behind s) (sym (r .1)),
+      l .loop .inv .4,
     )
 
 add-t6 : tie.Need-add-t6 Inv-loop μ-loop
 add-t6 c = search needs
 
 returns : tie.Need-returns Inv-loop μ-loop
-unfolding itemCount
 returns c =
     let l = c .before .before .before .before .before in
     let s = l .before .before .before .before .args .s .now in
     items-stop s (l .loop .c .passed) (l .loop .c .at) _ _ (l .loop .inv .2) (l .loop .inv .3) (c .before .before .fits2 .ensures) (c .before .if2 .left)
-    (l .before .before .number16 .ensures .0) (omega arith)
+    (l .before .before .item-count .ensures .0) (omega arith)
 
 returns-2 : tie.Need-returns-2 Inv-loop μ-loop
-unfolding itemCount
 returns-2 c =
     let l = c .before .before .before .before in
     let s = l .before .before .before .before .args .s .now in
-    items-whole s (l .loop .c .passed) (l .loop .c .at) _ (l .loop .inv .2) (l .loop .inv .3) (l .before .before .number16 .ensures .0) (l .loop .inv .0) (omega arith) (c .if3 .taken)
+    items-whole s (l .loop .c .passed) (l .loop .c .at) _ (l .loop .inv .2) (l .loop .inv .3) (l .before .before .item-count .ensures .0) (l .loop .inv .0) (omega arith) (c .if3 .taken)
 
 add-t7 : tie.Need-add-t7 Inv-loop μ-loop
 add-t7 c = search needs
 
 returns-3 : tie.Need-returns-3 Inv-loop μ-loop
-unfolding itemCount
 returns-3 c =
     let l = c .before .before .before .before in
     let s = l .before .before .before .before .args .s .now in
-    items-over s (l .loop .c .passed) (l .loop .c .at) _ (l .loop .inv .2) (l .loop .inv .3) (l .before .before .number16 .ensures .0) (l .loop .inv .0) (omega arith) (c .if3 .left)
+    items-over s (l .loop .c .passed) (l .loop .c .at) _ (l .loop .inv .2) (l .loop .inv .3) (l .before .before .item-count .ensures .0) (l .loop .inv .0) (omega arith) (c .if3 .left)
 
 pub check-items-spec : {M : Type 1} → statement M
 check-items-spec =
@@ -89,7 +89,7 @@ check-items-spec =
     (tie.spec
     Inv-loop
     μ-loop
-    number16-requires
+    item-count-requires
     first-requires
     loop-holds
     fits-requires

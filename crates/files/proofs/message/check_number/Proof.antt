@@ -1,0 +1,9 @@
+-- The count stands in a file that 3 does not refuse.
+use native.Mathlib.Omega.{arith}
+use Rattle.files.proofs.Messages.{headed}
+use borrow.Author.Needs.{needs}
+use Rattle.files.proofs.message.check_number.Statement.{statement}
+use Rattle.files.proofs.message.check_number.Tie as tie
+
+pub check-number-spec : {M : Type 1} → statement M
+check-number-spec = tie.close (tie.spec (λ c κs. omega (arith, headed _ (c .before .pre))) (λ c κs. search needs) (λ c. cc))

@@ -1,0 +1,18 @@
+-- Eight bytes, the tags and the MAC.
+use Prim.Native.Nat.{_≤_}
+use native.Mathlib.Omega.{arith}
+use Rattle.sizes.proofs.Laws.{tags-few}
+use Rattle.files.specs.TagFile.{fileSize}
+use borrow.Author.Needs.{needs}
+use Rattle.files.proofs.tagfile.file_size.Statement.{statement}
+use Rattle.files.proofs.tagfile.file_size.Tie as tie
+
+few : (c : tie.After-tags) → c .tags .result ≤ 82
+few c = omega (arith, c .tags .ensures, tags-few (c .before .args .code))
+
+pub file-size-spec : {M : Type 1} → statement M
+unfolding fileSize
+file-size-spec =
+    tie.close
+    (tie.spec (λ c κs. search needs) (λ c. omega (arith, few c)) (λ c. omega (arith, few c)) (λ c. omega (arith, few c))
+    (λ c. (omega (arith, few c, c .tags .ensures), omega (arith, few c))))
