@@ -1,5 +1,6 @@
 -- The theorems, from the laws that they rest on upward; then the laws of what is printed.
 pub mod Matrices
+pub mod Choices
 pub mod Circulant
 pub mod Reading
 pub mod Lists

@@ -1,5 +1,6 @@
 -- Any difference list, and any m but 0: the pattern that the check polynomial gives yields every row behind the first t, t being its degree, no shorter
--- pattern yields any row, and the first t rows are independent.
+-- pattern yields any row, and the first t rows are independent. Where there is a row behind them, that pattern is the only one within t, and none there has
+-- fewer steps.
 use mathlib.Core.Path.{_≡_, refl, sym, ap, ap₂, _∙_}
 use mathlib.Core.Bool.{Bool, true, false, _&&_, xor}
 use mathlib.Core.List.{List, [], _∷_, _++_, map}
@@ -22,8 +23,9 @@ use Rattle.polynomials.proofs.Acting.{act}
 use Rattle.polynomials.proofs.Lessening.{size-at, size-above}
 use Rattle.polynomials.proofs.Recurring.{act-highest}
 use Rattle.polynomials.proofs.Checking.{bezout, check-kills, check-size, generator-some}
-use Rattle.deriving.specs.Shortest.{Within, xorBack, Pattern, NoShorterPattern, NoShorterRow, Independent}
+use Rattle.deriving.specs.Shortest.{Within, xorBack, Pattern, NoShorterPattern, NoShorterRow, OnlyPattern, FewestSteps, Independent}
 use Rattle.deriving.proofs.Matrices.{fails-or, no-shorter-pattern-by, independent-by, listed-within, within-ext}
+use Rattle.deriving.proofs.Choices.{only-pattern-by, fewest-steps-by}
 use Rattle.deriving.proofs.Circulant.{turned, no-row}
 use Rattle.deriving.proofs.Reading.{atCard, atCard-period, shows, row-shows, row-on}
 
@@ -66,15 +68,19 @@ module _ (m : ℕ) (D : List ℕ) (some : 0 < m) where
   abbrev pub degree : ℕ
   degree = polySize (checkPolynomial m D) - 1
 
+  -- which steps it chooses
+  abbrev step : ℕ → Bool
+  step k = eqb (getD (checkPolynomial m D) (degree - k) 0) 1
+
   has-degree : polySize (checkPolynomial m D) ≡ suc degree
   has-degree = omega (arith, check-size m D some)
 
-  pub degree-most : degree ≤ m
+  degree-most : degree ≤ m
   degree-most = omega (arith, check-size m D some, generator-some m D some)
 
-  pub pattern-within : Within degree (rowPattern m D)
+  pattern-within : Within degree (rowPattern m D)
   unfolding rowPattern stepsBack
-  pattern-within = listed-within (λ k. eqb (getD (checkPolynomial m D) (degree - k) 0) 1) degree
+  pattern-within = listed-within step degree
 
   -- the row t on is the XOR of those that the steps lead back to
   module _ (i j : ℕ) (li : degree < i) (ui : i ≤ m) (lj : 1 ≤ j) (uj : j ≤ m) where
@@ -91,7 +97,7 @@ module _ (m : ℕ) (D : List ℕ) (some : 0 < m) where
         (sym (act-highest (checkPolynomial m D) degree along (i - degree) has-degree) ∙ check-kills m D some (atCard m j) (atCard-period m j) (i - degree)))
         ∙ terms-back (checkPolynomial m D) degree along (i - degree) (omega (arith, size-most (checkPolynomial m D), has-degree))
         ∙ parity-ext (λ k. along (i - degree + degree - k)) (λ k. along (i - k)) (λ k. ap (λ (n : ℕ). along (n - k)) z)
-        (listed (λ k. eqb (getD (checkPolynomial m D) (degree - k) 0) 1) degree)
+        (listed step degree)
 
     yields-at : on m D i j ≡ xorBack (on m D) (rowPattern m D) i j
     unfolding xorBack along
@@ -143,3 +149,13 @@ module _ (m : ℕ) (D : List ℕ) (some : 0 < m) where
 
   pub independent : Independent m (on m D) degree
   independent = independent-by m (on m D) degree degree-most no-shorter-row degree (omega arith)
+
+  -- ---- no other one, and none of fewer steps
+
+  pub only-pattern : degree < m → OnlyPattern m (on m D) degree (rowPattern m D)
+  unfolding rowPattern stepsBack
+  only-pattern l = only-pattern-by m (on m D) degree independent l step pattern-yields
+
+  pub fewest-steps : degree < m → FewestSteps m (on m D) degree (rowPattern m D)
+  unfolding rowPattern stepsBack
+  fewest-steps l = fewest-steps-by m (on m D) degree independent l step pattern-yields

@@ -1,9 +1,9 @@
 -- Of any matrix: steps that do not yield a row fail at a card, and rows none of which is had from those before it are independent.
-use mathlib.Core.Path.{_≡_, refl, sym, ap, ap₂, _∙_, subst}
+use mathlib.Core.Path.{_≡_, refl, sym, ap, ap₂, _∙_}
 use mathlib.Core.Bool.{Bool, true, false, xor}
 use mathlib.Core.List.{List, [], _∷_, _++_, map}
 use mathlib.Core.Logic.{_⊎_, inl, inr}
-use Prim.Native.Nat.{ℕ, zero, suc, _-_, _≤_, _<_}
+use Prim.Native.Nat.{ℕ, zero, suc, _-_, _≤_}
 use native.Mathlib.Omega.{arith}
 use Rattle.cipher.specs.Block.{if_then_else_}
 use Rattle.incidence.specs.Count.{anyUpTo, listed}
@@ -38,7 +38,7 @@ module _ (m : ℕ) (on : ℕ → ℕ → Bool) (Q : List ℕ) (i : ℕ) where
           xor-same (on i j) (xorBack on Q i j)
           (not-passed (differ j) (λ p. not-both (anyUpTo differ m) (any-some differ m j l u p) e))))
 
-  pub fails-not : Fails m on Q i → Yields m on Q i → ⊥
+  fails-not : Fails m on Q i → Yields m on Q i → ⊥
   fails-not f y = f .differs (y (f .card) (f .low) (f .high))
 
 -- at the first row behind the first t
@@ -70,14 +70,17 @@ listed-within chosen (suc n) = go (within-more n (suc n) (omega arith) (listed c
     go w true = within-last (suc n) (suc n) (listed chosen n) w (omega arith) (omega arith)
     go w false = w
 
--- rows before row i as steps back from it, and those steps taken
-back-within : (i n : ℕ) → n < i → (l : List ℕ) → Within n l → Within (i - 1) (map (λ a. i - a) l)
-back-within i n h [] w = tt
-back-within i n h (a ∷ l) w = (omega (arith, w .1), omega (arith, w .0), back-within i n h l (w .2))
+-- the first n rows as steps back from row n + 1, or those steps as rows
+abbrev pub back : ℕ → List ℕ → List ℕ
+back n = map (λ a. suc n - a)
 
-back-again : (i n : ℕ) → n < i → (l : List ℕ) → Within n l → map (λ k. i - k) (map (λ a. i - a) l) ≡ l
-back-again i n h [] w = refl
-back-again i n h (a ∷ l) w = let e : i - (i - a) ≡ a = omega (arith, w .1) in ap₂ _∷_ e (back-again i n h l (w .2))
+pub back-within : (n : ℕ) (l : List ℕ) → Within n l → Within n (back n l)
+back-within n [] w = tt
+back-within n (a ∷ l) w = (omega (arith, w .1), omega (arith, w .0), back-within n l (w .2))
+
+back-again : (n : ℕ) (l : List ℕ) → Within n l → back n (back n l) ≡ l
+back-again n [] w = refl
+back-again n (a ∷ l) w = let e : suc n - (suc n - a) ≡ a = omega (arith, w .1) in ap₂ _∷_ e (back-again n l (w .2))
 
 -- ---- the last row chosen would be the XOR of the others
 
@@ -88,7 +91,7 @@ module _ (m : ℕ) (on : ℕ → ℕ → Bool) (t : ℕ) (fits : t ≤ m) (no-sh
   independent-by (suc n) l chosen none i a b = go (independent-by n (omega arith) chosen) (chosen (suc n)) refl
     where
       steps : List ℕ
-      steps = map (λ a. suc n - a) (listed chosen n)
+      steps = back n (listed chosen n)
 
       holds : ℕ → ℕ → Bool
       holds j a = on a j
@@ -101,17 +104,13 @@ module _ (m : ℕ) (on : ℕ → ℕ → Bool) (t : ℕ) (fits : t ≤ m) (no-sh
       had e j lj uj =
           sym (xor-same (parity (holds j) (listed chosen n)) (on (suc n) j)
           (sym (parity-last (holds j) (listed chosen n) (suc n)) ∙ ap (λ (t : Bool). parity (holds j) (pick t)) (sym e) ∙ none j lj uj))
-          ∙ ap (parity (holds j)) (sym (back-again (suc n) n (omega arith) (listed chosen n) (listed-within chosen n)))
+          ∙ ap (parity (holds j)) (sym (back-again n (listed chosen n) (listed-within chosen n)))
 
       go : (((j : ℕ) → 1 ≤ j → j ≤ m → parity (λ a. on a j) (listed chosen n) ≡ false) → (i : ℕ) → 1 ≤ i → i ≤ n → chosen i ≡ false)
           → (t : Bool) → chosen (suc n) ≡ t → chosen i ≡ false
       go rest true e =
-          let z : suc n - 1 ≡ n = omega arith in
           absurd (fails-not m on steps (suc n)
-          (no-shorter n (omega arith) steps
-          (subst (λ (t : ℕ). Within t steps) z (back-within (suc n) n (omega arith) (listed chosen n) (listed-within chosen n)))
-          (suc n) (omega arith) (omega arith))
-          (had e))
+          (no-shorter n (omega arith) steps (back-within n (listed chosen n) (listed-within chosen n)) (suc n) (omega arith) (omega arith)) (had e))
       go rest false e = last (last-or i n b)
         where
           last : (i ≡ suc n) ⊎ (i ≤ n) → chosen i ≡ false

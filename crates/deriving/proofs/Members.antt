@@ -10,7 +10,7 @@ use borrow.Author.Tests.{le-ltb}
 use Rattle.incidence.proofs.Counting.{every, every-at}
 use Rattle.plane.specs.Table.{planeItems, differenceLists, differences}
 use Rattle.plane.proofs.Ranks.{under, under-at}
-use Rattle.plane.proofs.Lookup.{five, no-differences, items-most}
+use Rattle.plane.proofs.Lookup.{five, no-differences, differences-few, items-most}
 use Rattle.plane.proofs.Rules.{rules}
 use Rattle.polynomials.specs.CyclicCode.{rowPattern}
 use Rattle.polynomials.specs.Deriving.{refuses, patternAnswer, patternWrites}
@@ -31,7 +31,11 @@ member-small s k h = under-at 274 (differences s) (five s (every-at small 5 smal
 
 -- ---- the list as it is handed on, and what comes of it
 
--- the front of the array that it was copied to
+-- the array that it is copied to has room for it
+pub list-few : (s n : ℕ) → n ≡ length (differences s) → n ≤ 17
+list-few s n e = omega (arith, differences-few s)
+
+-- the front of that array
 pub lent-list : (s n : ℕ) (l o : List ℕ) → l ≡ differences s ++ drop (length (differences s)) o → n ≡ length (differences s)
     → take (n - 0) l ≡ differences s
 lent-list s n l o e f =

@@ -1,11 +1,12 @@
--- The four planes: the patterns in use are those derived, and so no shorter ones yield their rows and the tagged rows are independent. What is
--- computed is one test over the four lists; the rest holds of any list (Lists).
+-- The four planes: the patterns in use are those derived, and so no shorter patterns, and within t no others and none of fewer steps, yield their rows, and
+-- the tagged rows are independent. What is computed is one test over the four lists; the rest holds of any list (Lists).
 use mathlib.Core.Path.{_≡_, refl, subst}
 use mathlib.Core.Bool.{Bool, true, _&&_}
+use mathlib.Core.List.{List}
 use Prim.Native.Nat.{ℕ, suc, _+_, _-_, _^_, _≤_, _<_}
 use native.Mathlib.Omega.{arith}
-use lib.Dec.{eqb}
-use borrow.Author.Tests.{eqb-true}
+use lib.Dec.{eqb, ltb}
+use borrow.Author.Tests.{eqb-true, ltb-true}
 use Rattle.cipher.specs.Block.{_⊕_, same}
 use Rattle.cipher.proofs.Xor.{same-true}
 use Rattle.incidence.proofs.Booleans.{and-left, and-right}
@@ -15,13 +16,13 @@ use Rattle.plane.specs.Plane.{plane}
 use Rattle.plane.proofs.Rules.{rules}
 use Rattle.polynomials.specs.Polynomial.{longer, polySize, raised, less, gcdIn, gcd, quotientIn, quotient}
 use Rattle.polynomials.specs.CyclicCode.{modulus, ofList, generatorPolynomial, checkPolynomial, stepsBack, rowPattern}
-use Rattle.deriving.specs.Shortest.{Pattern, NoShorterPattern, NoShorterRow, Independent}
+use Rattle.deriving.specs.Shortest.{Pattern, NoShorterPattern, NoShorterRow, OnlyPattern, FewestSteps, Independent}
 use Rattle.deriving.specs.Derived.{derived}
 use Rattle.deriving.proofs.Lists as lists
 
--- the pattern derived is the one in use, the degree of the check polynomial is t, and t is 3^s + 1
+-- the pattern derived is the one in use, the degree of the check polynomial is t, t is 3^s + 1, and there are more rows
 planeTest : ℕ → Bool
-planeTest s = same (derived s) (planePattern s) && (eqb (polySize (checkPolynomial (planeItems s) (differences s))) (suc (planeTags s)) && eqb (planeTags s) (3 ^ s + 1))
+planeTest s = same (derived s) (planePattern s) && (eqb (polySize (checkPolynomial (planeItems s) (differences s))) (suc (planeTags s)) && (eqb (planeTags s) (3 ^ s + 1) && ltb (planeTags s) (planeItems s)))
 
 tested : every (λ s. planeTest (suc s)) 4 ≡ true
 unfolding planeTest same derived rowPattern checkPolynomial generatorPolynomial modulus ofList stepsBack longer polySize raised less gcdIn gcd quotientIn quotient _⊕_ planeItems itemCounts planeTags tagCounts differences differenceLists planePattern patternLists
@@ -36,17 +37,28 @@ module _ (s : ℕ) (low : 1 ≤ s) (high : s ≤ 4) where
   unfolding planeTest
   derived-in-use = same-true (derived s) (planePattern s) (and-left (same (derived s) (planePattern s)) _ passes)
 
+  -- what holds of the one holds of the other
+  in-use : (P : List ℕ → Type 0) → P (derived s) → P (planePattern s)
+  in-use P = subst P derived-in-use
+
   -- t is the degree of the check polynomial
   pub check-degree : polySize (checkPolynomial (planeItems s) (differences s)) ≡ suc (planeTags s)
   unfolding planeTest
   check-degree = eqb-true _ (suc (planeTags s)) (and-left _ _ (and-right (same (derived s) (planePattern s)) _ passes))
 
+  -- the tests behind it
+  others : eqb (planeTags s) (3 ^ s + 1) && ltb (planeTags s) (planeItems s) ≡ true
+  unfolding planeTest
+  others =
+      and-right (eqb (polySize (checkPolynomial (planeItems s) (differences s))) (suc (planeTags s))) _
+      (and-right (same (derived s) (planePattern s)) _ passes)
+
   -- 000, 6.4: "the GF(2) rank of P^(s) is t = 3^s + 1"
   pub tags-rank : planeTags s ≡ 3 ^ s + 1
-  unfolding planeTest
-  tags-rank =
-      eqb-true (planeTags s) (3 ^ s + 1)
-      (and-right (eqb (polySize (checkPolynomial (planeItems s) (differences s))) (suc (planeTags s))) _ (and-right (same (derived s) (planePattern s)) _ passes))
+  tags-rank = eqb-true (planeTags s) (3 ^ s + 1) (and-left _ _ others)
+
+  more : planeTags s < planeItems s
+  more = ltb-true (planeTags s) (planeItems s) (and-right (eqb (planeTags s) (3 ^ s + 1)) _ others)
 
   some : 0 < planeItems s
   some = rules s low high .some
@@ -69,6 +81,20 @@ module _ (s : ℕ) (low : 1 ≤ s) (high : s ≤ 4) where
   pub no-shorter-pattern : NoShorterPattern (planeItems s) (plane s .on) (planeTags s)
   unfolding plane
   no-shorter-pattern = of-tags (NoShorterPattern (planeItems s) (plane s .on)) (lists.no-shorter-pattern (planeItems s) (differences s) some)
+
+  -- and within t no other: the pattern in use is the only one
+  pub only-pattern : OnlyPattern (planeItems s) (plane s .on) (planeTags s) (planePattern s)
+  unfolding plane derived
+  only-pattern =
+      in-use (OnlyPattern (planeItems s) (plane s .on) (planeTags s))
+      (of-tags (λ t. t < planeItems s → OnlyPattern (planeItems s) (plane s .on) t (derived s)) (lists.only-pattern (planeItems s) (differences s) some) more)
+
+  -- nor one that XORs fewer rows
+  pub fewest-steps : FewestSteps (planeItems s) (plane s .on) (planeTags s) (planePattern s)
+  unfolding plane derived
+  fewest-steps =
+      in-use (FewestSteps (planeItems s) (plane s .on) (planeTags s))
+      (of-tags (λ t. t < planeItems s → FewestSteps (planeItems s) (plane s .on) t (derived s)) (lists.fewest-steps (planeItems s) (differences s) some) more)
 
   -- 000, 6.4: "It uses t independent rows of P^(s) as H"
   pub independent : Independent (planeItems s) (plane s .on) (planeTags s)

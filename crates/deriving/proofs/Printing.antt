@@ -24,7 +24,7 @@ lines-more (suc n) l =
     let b : suc n ≡ suc n + 1 - 1 = omega arith in
     ap (λ (k : ℕ). patternLines derived k ++ patternLine (suc n) (derived (suc n))) a ∙ ap (patternLines derived) b
 
-pub lines-in-use : (n : ℕ) → n ≤ 4 → patternLines derived n ≡ patternLines planePattern n
+lines-in-use : (n : ℕ) → n ≤ 4 → patternLines derived n ≡ patternLines planePattern n
 unfolding patternLines
 lines-in-use zero h = refl
 lines-in-use (suc n) h =

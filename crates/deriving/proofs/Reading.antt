@@ -1,7 +1,7 @@
 -- The rows of a circulant as D(x) makes them: acting on the sequence that is 1 at card j and at every m-th place from it, D(x) gives at place i whether row i
 -- holds card j; and any polynomial of degree below m shows its coefficients there.
 use mathlib.Core.Path.{_≡_, refl, sym, ap, ap₂, _∙_}
-use mathlib.Core.Bool.{Bool, true, false, _&&_, _||_, xor}
+use mathlib.Core.Bool.{Bool, true, false, _&&_, _||_, xor, and-true, and-false}
 use mathlib.Core.List.{List, [], _∷_}
 use Prim.Native.Nat.{ℕ, zero, suc, _+_, _-_, _*_, _/_, _%_, _≤_, _<_}
 use native.Mathlib.Nat.{add-mod-right, mod-add-mod, mod-lt, mod-eq-of-lt, mod-self, div-add-mod', add-mul-mod-self-right}
@@ -38,10 +38,6 @@ act-single (a ∷ p) zero (suc n) f u l s here others =
     ∙ xor-turn (eqb a 1 && true) false
     ∙ xor-none (eqb a 1 && true)
     ∙ and-true (eqb a 1)
-  where
-    and-true : (t : Bool) → t && true ≡ t
-    and-true true = refl
-    and-true false = refl
 act-single (a ∷ p) (suc c) (suc n) f u l s here others =
     let z : u ≡ u + 0 = omega arith in
     let e : suc u + c ≡ u + suc c = omega arith in
@@ -50,10 +46,6 @@ act-single (a ∷ p) (suc c) (suc n) f u l s here others =
     (λ k b q. let e : suc u + k ≡ u + suc k = omega arith in ap f e ∙ others (suc k) (omega arith) (λ r. q (omega arith))))
     ∙ ap (λ (t : Bool). xor t (eqb (getD p c 0) 1)) (and-false (eqb a 1))
     ∙ xor-none (eqb (getD p c 0) 1)
-  where
-    and-false : (t : Bool) → t && false ≡ false
-    and-false true = refl
-    and-false false = refl
 
 -- ---- places that are card j
 

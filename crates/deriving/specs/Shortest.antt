@@ -1,9 +1,10 @@
--- Steps back that yield a row, that no shorter ones do, and rows that are independent (document 02, 2.6; 000, section 6.4). A matrix has m rows and m
--- cards, numbered from 1, and row i holds card j where `on i j`. Assumes nothing.
+-- Steps back that yield a row, that no shorter and no fewer ones do, and rows that are independent (document 02, 2.6; 000, section 6.4). A matrix
+-- has m rows and m cards, numbered from 1, and row i holds card j where `on i j`. Assumes nothing.
 use mathlib.Core.Path.{_≡_}
 use mathlib.Core.Bool.{Bool, false}
 use mathlib.Core.List.{List, [], _∷_, map}
 use Prim.Native.Nat.{ℕ, _-_, _≤_, _<_}
+use lib.ListN.{length}
 use Rattle.incidence.specs.Count.{listed}
 use Rattle.incidence.specs.Family.{parity}
 
@@ -47,6 +48,14 @@ module _ (m : ℕ) (on : ℕ → ℕ → Bool) where
   -- and more: it yields none of them
   abbrev pub NoShorterRow : ℕ → Type 0
   NoShorterRow t = (t′ : ℕ) → t′ < t → (Q : List ℕ) → Within t′ Q → (i : ℕ) → t′ < i → i ≤ m → Fails Q i
+
+  -- within t there is no other pattern: whichever of the steps 1 to t are chosen, if they are a pattern, they are P
+  abbrev pub OnlyPattern : ℕ → List ℕ → Type 0
+  OnlyPattern t P = (chosen : ℕ → Bool) → Pattern t (listed chosen t) → listed chosen t ≡ P
+
+  -- and none that XORs fewer rows, a row that is XORed twice being counted twice
+  abbrev pub FewestSteps : ℕ → List ℕ → Type 0
+  FewestSteps t P = (Q : List ℕ) → Pattern t Q → length P ≤ length Q
 
   -- the first t rows are independent: where the XOR of chosen ones holds no card, none is chosen
   abbrev pub Independent : ℕ → Type 0

@@ -38,7 +38,7 @@ act-if : (t : Bool) (q : List ℕ) (f : ℕ → Bool) (x : ℕ) → act q (λ y.
 act-if true q f x = refl
 act-if false q f x = act-nothing q x
 
-pub act-swap : (p q : List ℕ) (f : ℕ → Bool) (x : ℕ) → act p (act q f) x ≡ act q (act p f) x
+act-swap : (p q : List ℕ) (f : ℕ → Bool) (x : ℕ) → act p (act q f) x ≡ act q (act p f) x
 unfolding act
 act-swap [] q f x = sym (act-nothing q x)
 act-swap (c ∷ p) q f x =
@@ -113,7 +113,7 @@ module _ (m : ℕ) (D : List ℕ) (some : 0 < m) where
   pub generator-some : 0 < polySize (generatorPolynomial m D)
   generator-some = ends .some (omega (arith, size-modulus m some))
 
-  pub generator-most : polySize (generatorPolynomial m D) ≤ suc m
+  generator-most : polySize (generatorPolynomial m D) ≤ suc m
   generator-most = omega (arith, size-most (generatorPolynomial m D), G .long)
 
   -- deg h = m − deg g

@@ -78,7 +78,7 @@ module _ (w : ℕ) (q : List ℕ) (Q : Poly w q) (some : 0 < polySize q) where
       both : (a b c : Bool) → xor (xor a b) (xor b c) ≡ xor a c
       both a b c = sym (xor-three a b (xor b c)) ∙ ap (xor a) (xor-three b b c ∙ ap (λ (t : Bool). xor t c) (xor-self b) ∙ xor-none c)
 
-  pub divided : (n : ℕ) (h p : List ℕ) → Poly w p → length h ≡ w → polySize p ≤ n → Free h (suc (polySize p) - polySize q) → Divided w h p q (quotientIn n h p q)
+  divided : (n : ℕ) (h p : List ℕ) → Poly w p → length h ≡ w → polySize p ≤ n → Free h (suc (polySize p) - polySize q) → Divided w h p q (quotientIn n h p q)
   unfolding quotientIn
   divided zero h p P e l z = stays h p P (omega arith)
   divided (suc n) h p P e l z =

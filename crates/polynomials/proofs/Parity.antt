@@ -78,7 +78,7 @@ unfolding parity
 parity-none [] = refl
 parity-none (k ∷ Q) = xor-none _ ∙ parity-none Q
 
-pub parity-sum : (p q : ℕ → Bool) (Q : List ℕ) → parity (λ k. xor (p k) (q k)) Q ≡ xor (parity p Q) (parity q Q)
+parity-sum : (p q : ℕ → Bool) (Q : List ℕ) → parity (λ k. xor (p k) (q k)) Q ≡ xor (parity p Q) (parity q Q)
 unfolding parity
 parity-sum p q [] = sym (xor-none false)
 parity-sum p q (k ∷ Q) = ap (xor (xor (p k) (q k))) (parity-sum p q Q) ∙ xor-four (p k) (q k) (parity p Q) (parity q Q)

@@ -1,7 +1,7 @@
 -- A sequence that a polynomial of degree n takes to 0 and no shorter one does: n − 1 times 0, then 1, and from there on as the polynomial says. So a
 -- polynomial shorter than g that takes to 0 all that g does is 0.
 use mathlib.Core.Path.{_≡_, refl, sym, ap, ap₂, _∙_}
-use mathlib.Core.Bool.{Bool, true, false, _&&_, xor, true≢false}
+use mathlib.Core.Bool.{Bool, true, false, _&&_, xor, and-false, true≢false}
 use mathlib.Core.List.{List, [], _∷_}
 use Prim.Native.Nat.{ℕ, zero, suc, _+_, _-_, _≤_, _<_}
 use native.Mathlib.Omega.{arith}
@@ -52,11 +52,7 @@ act-highest (c ∷ p) (suc r) f x e =
 pub act-nothing : (p : List ℕ) (x : ℕ) → act p (λ y. false) x ≡ false
 unfolding act
 act-nothing [] x = refl
-act-nothing (c ∷ p) x = ap₂ xor (and-none (eqb c 1)) (act-nothing p (suc x)) ∙ xor-none false
-  where
-    and-none : (t : Bool) → t && false ≡ false
-    and-none true = refl
-    and-none false = refl
+act-nothing (c ∷ p) x = ap₂ xor (and-false (eqb c 1)) (act-nothing p (suc x)) ∙ xor-none false
 
 pub act-quiet : (p : List ℕ) (f : ℕ → Bool) (x : ℕ) → ((k : ℕ) → k < length p → f (x + k) ≡ false) → act p f x ≡ false
 act-quiet p f x h = act-ext p f (λ y. false) x h ∙ act-nothing p x

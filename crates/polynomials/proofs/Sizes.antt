@@ -1,4 +1,4 @@
--- The laws of `size`: it is at most the length, and a walk from the front has it of the coefficients passed.
+-- The laws of `polySize`: it is at most the length, and a walk from the front has it of the coefficients passed.
 use mathlib.Core.Path.{_≡_, refl, sym, ap, _∙_}
 use mathlib.Core.List.{List, [], _∷_}
 use Prim.Native.Nat.{ℕ, zero, suc, _+_, _-_, _≤_, _<_}

@@ -18,15 +18,6 @@ Inv-loop s list₀ n i₀ list i = (i ≤ n) × (length list ≡ length list₀)
 abbrev μ-loop : tie.MeasureT-loop
 μ-loop s list₀ n i₀ list i = n - i
 
-difference-count-requires : tie.Need-difference-count-requires Inv-loop μ-loop
-difference-count-requires c κs = search needs
-
-loop-holds : tie.Need-loop-holds Inv-loop μ-loop
-loop-holds c = search needs
-
-difference-requires : tie.Need-difference-requires Inv-loop μ-loop
-difference-requires c κs = search needs
-
 cast-list : tie.Need-cast-list Inv-loop μ-loop
 cast-list c =
     let d = c .before .before .before in
@@ -46,12 +37,6 @@ slice-write-list c =
     let d = c .before .before .before in
     omega (arith, d .difference-count .ensures, differences-few (d .before .before .args .s))
 
-add-i : tie.Need-add-i Inv-loop μ-loop
-add-i c = search needs
-
-loop-less : tie.Need-loop-less Inv-loop μ-loop
-loop-less c = search needs
-
 loop-again : tie.Need-loop-again Inv-loop μ-loop
 loop-again c =
     let l = c .before .before in
@@ -64,9 +49,6 @@ loop-again c =
       part-turn (l .loop .i) (differences s) list (l .loop .list) _ (l .loop .inv .2)
           (omega (arith, e, differences-few s)) (omega (arith, e)) (c .difference .ensures),
     )
-
-same-length : tie.Need-same-length Inv-loop μ-loop
-same-length c = search needs
 
 returns : tie.Need-returns Inv-loop μ-loop
 returns c =
@@ -82,17 +64,5 @@ returns c =
 pub copy-differences-spec : {M : Type 1} → statement M
 copy-differences-spec =
     tie.close
-    (tie.spec
-    Inv-loop
-    μ-loop
-    difference-count-requires
-    loop-holds
-    difference-requires
-    cast-list
-    mul-list
-    slice-write-list
-    add-i
-    loop-less
-    loop-again
-    same-length
-    returns)
+    (tie.spec Inv-loop μ-loop (λ c κs. search needs) (λ c. search needs) (λ c κs. search needs) cast-list mul-list
+    slice-write-list (λ c. search needs) (λ c. search needs) loop-again (λ c. search needs) returns)

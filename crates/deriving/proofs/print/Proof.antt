@@ -7,9 +7,6 @@ use borrow.Author.Needs.{needs}
 use Rattle.deriving.proofs.print.Statement.{statement}
 use Rattle.deriving.proofs.print.Tie as tie
 
-put-lines-requires : tie.Need-put-lines-requires
-put-lines-requires c κs = search needs
-
 returns : tie.Need-returns
 returns c =
     let p = c .put-lines .ensures in
@@ -18,4 +15,4 @@ returns c =
     (all-derived _ _ _ (p .0) (p .1), (all-in-use _ _ _ (p .0) (p .1), (p .1, all-counts _ _ _ (p .0) (p .1) long)))
 
 pub print-spec : {M : Type 1} → statement M
-print-spec = tie.close (tie.spec put-lines-requires returns)
+print-spec = tie.close (tie.spec (λ c κs. search needs) returns)

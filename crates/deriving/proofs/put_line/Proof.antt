@@ -9,21 +9,12 @@ use borrow.Author.Needs.{needs}
 use Rattle.deriving.proofs.put_line.Statement.{statement}
 use Rattle.deriving.proofs.put_line.Tie as tie
 
-slice-aggregate-derive : tie.Need-slice-aggregate-derive
-slice-aggregate-derive c = search needs
-
-derive-requires : tie.Need-derive-requires
-derive-requires c κs = search needs
-
 put-decimal-requires : tie.Need-put-decimal-requires
 unfolding patternLine ascii
 put-decimal-requires c κs =
     let d = c .before .before .before .before .before in
     let s = d .args .s in
     three₁ (d .args .at) (decimal s) (words (derived s)) (ascii "\n") (now (d .args .out)) (d .pre .2)
-
-slice-aggregate-put-words : tie.Need-slice-aggregate-put-words
-slice-aggregate-put-words c = search needs
 
 put-words-requires : tie.Need-put-words-requires
 unfolding patternLine ascii
@@ -36,9 +27,6 @@ put-words-requires c κs =
           (three₂ (d .args .at) (decimal s) (words (derived s)) (ascii "\n") (now (d .args .out)) (d .pre .2) (c .before .before .before .before .put-decimal .ensures)),
     )
 
-slice-aggregate-put : tie.Need-slice-aggregate-put
-slice-aggregate-put c = search needs
-
 put-requires : tie.Need-put-requires
 unfolding patternLine ascii
 put-requires c κs =
@@ -47,9 +35,6 @@ put-requires c κs =
     let e = c .before .before .before .before .before .before .before .before .before .before .before .before .derive .ensures in
     three₃ (d .args .at) (decimal s) (words (derived s)) (ascii "\n") (now (d .args .out)) (d .pre .2) (c .before .before .before .before .before .before .before .before .before .put-decimal .ensures)
     (put-as _ _ _ _ _ _ (words-front s _ _ _ (e .0) (e .1)) (c .before .before .before .before .put-words .ensures))
-
-same-length : tie.Need-same-length
-same-length c = search needs
 
 returns : tie.Need-returns
 unfolding patternLine ascii
@@ -63,13 +48,5 @@ returns c =
 pub put-line-spec : {M : Type 1} → statement M
 put-line-spec =
     tie.close
-    (tie.spec
-    slice-aggregate-derive
-    derive-requires
-    put-decimal-requires
-    slice-aggregate-put-words
-    put-words-requires
-    slice-aggregate-put
-    put-requires
-    same-length
-    returns)
+    (tie.spec (λ c. search needs) (λ c κs. search needs) put-decimal-requires (λ c. search needs) put-words-requires
+    (λ c. search needs) put-requires (λ c. search needs) returns)

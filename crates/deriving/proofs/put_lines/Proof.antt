@@ -32,12 +32,6 @@ put-line-requires c κs =
           (lines-room s (length (now (d .args .out))) (l .loop .inv .0) (omega arith) (d .pre)) (l .loop .inv .2),
     )
 
-add-s : tie.Need-add-s Inv-loop μ-loop
-add-s c = search needs
-
-loop-less : tie.Need-loop-less Inv-loop μ-loop
-loop-less c = search needs
-
 loop-again : tie.Need-loop-again Inv-loop μ-loop
 loop-again c =
     let l = c .before .before .before .before .before in
@@ -62,4 +56,6 @@ returns c =
     lines-all (l .loop .s - 1) (now (l .before .before .args .out)) (l .loop .out) (l .loop .next) (omega arith) (l .loop .inv .2)
 
 pub put-lines-spec : {M : Type 1} → statement M
-put-lines-spec = tie.close (tie.spec Inv-loop μ-loop loop-holds put-line-requires add-s loop-less loop-again same-length returns)
+put-lines-spec =
+    tie.close
+    (tie.spec Inv-loop μ-loop loop-holds put-line-requires (λ c. search needs) (λ c. search needs) loop-again same-length returns)

@@ -24,12 +24,6 @@ loop-holds c =
     let d = c .before .before in
     (omega arith, put-none (d .args .at) (now (d .args .out)))
 
-mul-put-word : tie.Need-mul-put-word Inv-loop μ-loop
-mul-put-word c = search needs
-
-shared-slice-read-put-word : tie.Need-shared-slice-read-put-word Inv-loop μ-loop
-shared-slice-read-put-word c = search needs
-
 put-word-requires : tie.Need-put-word-requires Inv-loop μ-loop
 put-word-requires c κs =
     let l = c .before .before .before in
@@ -38,12 +32,6 @@ put-word-requires c κs =
     let i = l .loop .i in
     two₂ (d .args .at) (words (take i steps)) (labelled " " (getD steps i 0)) (now (d .args .out))
     (words-room (d .args .at) i (d .args .n) steps (now (d .args .out)) (omega arith) (d .pre .0) (d .pre .1)) (l .loop .inv .1)
-
-add-i : tie.Need-add-i Inv-loop μ-loop
-add-i c = search needs
-
-loop-less : tie.Need-loop-less Inv-loop μ-loop
-loop-less c = search needs
 
 loop-again : tie.Need-loop-again Inv-loop μ-loop
 loop-again c =
@@ -77,15 +65,5 @@ returns c =
 pub put-words-spec : {M : Type 1} → statement M
 put-words-spec =
     tie.close
-    (tie.spec
-    Inv-loop
-    μ-loop
-    loop-holds
-    mul-put-word
-    shared-slice-read-put-word
-    put-word-requires
-    add-i
-    loop-less
-    loop-again
-    same-length
-    returns)
+    (tie.spec Inv-loop μ-loop loop-holds (λ c. search needs) (λ c. search needs) put-word-requires (λ c. search needs)
+    (λ c. search needs) loop-again same-length returns)

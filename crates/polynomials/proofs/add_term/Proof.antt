@@ -4,12 +4,6 @@ use borrow.Author.Needs.{needs}
 use Rattle.polynomials.proofs.add_term.Statement.{statement}
 use Rattle.polynomials.proofs.add_term.Tie as tie
 
-slice-write-p : tie.Need-slice-write-p
-slice-write-p c = search needs
-
-same-length : tie.Need-same-length
-same-length c = search needs
-
 returns : tie.Need-returns
 returns c = search (needs, lt-ltb)
 
@@ -17,4 +11,4 @@ returns-2 : tie.Need-returns-2
 returns-2 c = search (needs, le-ltb)
 
 pub add-term-spec : {M : Type 1} → statement M
-add-term-spec = tie.close (tie.spec slice-write-p same-length returns returns-2)
+add-term-spec = tie.close (tie.spec (λ c. search needs) (λ c. search needs) returns returns-2)

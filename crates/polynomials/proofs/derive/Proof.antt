@@ -11,12 +11,6 @@ use borrow.Author.Needs.{needs}
 use Rattle.polynomials.proofs.derive.Statement.{statement}
 use Rattle.polynomials.proofs.derive.Tie as tie
 
-put-list-requires : tie.Need-put-list-requires
-put-list-requires c κs = search needs
-
-put-modulus-requires : tie.Need-put-modulus-requires
-put-modulus-requires c κs = search needs
-
 gcd-requires : tie.Need-gcd-requires
 gcd-requires c κs =
     let e = c .before .before .before .before in
@@ -25,9 +19,6 @@ gcd-requires c κs =
     let ld = zeros-long (suc (s .args .m)) (s .args .d .now) (s .pre .3) in
     let le = zeros-long (suc (s .args .m)) (s .args .e .now) (s .pre .4) in
     (omega arith, omega arith)
-
-put-modulus-requires-2 : tie.Need-put-modulus-requires-2
-put-modulus-requires-2 c κs = search needs
 
 divide-requires : tie.Need-divide-requires
 divide-requires c κs =
@@ -50,21 +41,6 @@ put-steps-requires c κs =
     let lh = zeros-long (suc (s .args .m)) (s .args .h .now) (s .pre .6) in
     (omega arith, omega arith)
 
-same-length : tie.Need-same-length
-same-length c = search needs
-
-same-length-2 : tie.Need-same-length-2
-same-length-2 c = search needs
-
-same-length-3 : tie.Need-same-length-3
-same-length-3 c = search needs
-
-same-length-4 : tie.Need-same-length-4
-same-length-4 c = search needs
-
-same-length-5 : tie.Need-same-length-5
-same-length-5 c = search needs
-
 returns : tie.Need-returns
 returns c =
     let p = c .before .before in
@@ -80,16 +56,5 @@ returns c =
 pub derive-spec : {M : Type 1} → statement M
 derive-spec =
     tie.close
-    (tie.spec
-    put-list-requires
-    put-modulus-requires
-    gcd-requires
-    put-modulus-requires-2
-    divide-requires
-    put-steps-requires
-    same-length
-    same-length-2
-    same-length-3
-    same-length-4
-    same-length-5
-    returns)
+    (tie.spec (λ c κs. search needs) (λ c κs. search needs) gcd-requires (λ c κs. search needs) divide-requires put-steps-requires
+    (λ c. search needs) (λ c. search needs) (λ c. search needs) (λ c. search needs) (λ c. search needs) returns)

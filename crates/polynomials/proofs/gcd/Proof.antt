@@ -17,12 +17,6 @@ Inv-loop p₀ q₀ most i₀ p q i =
 abbrev μ-loop : tie.MeasureT-loop
 μ-loop p₀ q₀ most i₀ p q i = most - i
 
-size-requires : tie.Need-size-requires Inv-loop μ-loop
-size-requires c κs = search needs
-
-size-requires-2 : tie.Need-size-requires-2 Inv-loop μ-loop
-size-requires-2 c κs = search needs
-
 add-most : tie.Need-add-most Inv-loop μ-loop
 add-most c =
     let d = c .before .before .before .before .before .before in
@@ -31,9 +25,6 @@ add-most c =
 loop-holds : tie.Need-loop-holds Inv-loop μ-loop
 loop-holds c = search (needs, gcd-begun)
 
-lessen-requires : tie.Need-lessen-requires Inv-loop μ-loop
-lessen-requires c κs = search needs
-
 add-i : tie.Need-add-i Inv-loop μ-loop
 add-i c =
     let l = c .before .before .before .before .before .before .before .before in
@@ -41,20 +32,8 @@ add-i c =
     let d = s .before .before .before .before .before .before in
     omega (arith, sizes-few _ _ _ _ (s .before .before .size .ensures) (s .size2 .ensures) (d .pre .0) (d .pre .1))
 
-loop-less : tie.Need-loop-less Inv-loop μ-loop
-loop-less c = search needs
-
 loop-again : tie.Need-loop-again Inv-loop μ-loop
 loop-again c = search (needs, gcd-next)
-
-add-raised-requires : tie.Need-add-raised-requires Inv-loop μ-loop
-add-raised-requires c κs = search needs
-
-same-length : tie.Need-same-length Inv-loop μ-loop
-same-length c = search needs
-
-same-length-2 : tie.Need-same-length-2 Inv-loop μ-loop
-same-length-2 c = search needs
 
 returns : tie.Need-returns Inv-loop μ-loop
 returns c = search (needs, gcd-done)
@@ -62,18 +41,5 @@ returns c = search (needs, gcd-done)
 pub gcd-spec : {M : Type 1} → statement M
 gcd-spec =
     tie.close
-    (tie.spec
-    Inv-loop
-    μ-loop
-    size-requires
-    size-requires-2
-    add-most
-    loop-holds
-    lessen-requires
-    add-i
-    loop-less
-    loop-again
-    add-raised-requires
-    same-length
-    same-length-2
-    returns)
+    (tie.spec Inv-loop μ-loop (λ c κs. search needs) (λ c κs. search needs) add-most loop-holds (λ c κs. search needs) add-i
+    (λ c. search needs) loop-again (λ c κs. search needs) (λ c. search needs) (λ c. search needs) returns)

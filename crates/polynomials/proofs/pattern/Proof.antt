@@ -24,38 +24,14 @@ returns c =
 add-w : tie.Need-add-w
 add-w c = omega (arith, ltb-false)
 
-sub-derive : tie.Need-sub-derive
-sub-derive c = search needs
-
-part-d-start : tie.Need-part-d-start
-part-d-start c = search needs
-
 part-d-end : tie.Need-part-d-end
 part-d-end c = omega (arith, ltb-false)
-
-sub-derive-2 : tie.Need-sub-derive-2
-sub-derive-2 c = search needs
-
-part-e-start : tie.Need-part-e-start
-part-e-start c = search needs
 
 part-e-end : tie.Need-part-e-end
 part-e-end c = omega (arith, ltb-false)
 
-sub-derive-3 : tie.Need-sub-derive-3
-sub-derive-3 c = search needs
-
-part-f-start : tie.Need-part-f-start
-part-f-start c = search needs
-
 part-f-end : tie.Need-part-f-end
 part-f-end c = omega (arith, ltb-false)
-
-sub-derive-4 : tie.Need-sub-derive-4
-sub-derive-4 c = search needs
-
-part-h-start : tie.Need-part-h-start
-part-h-start c = search needs
 
 part-h-end : tie.Need-part-h-end
 part-h-end c = omega (arith, ltb-false)
@@ -67,9 +43,6 @@ derive-requires c κs =
     let h = ltb-false 273 (d .args .m) (w .before .if2 .left) in
     let z = lent-zeros (d .args .m) h in
     (omega (arith, w .before .before .if1 .left), h, ltb-false _ (d .args .m) (w .if3 .left), z, z, z, z)
-
-same-length : tie.Need-same-length
-same-length c = search needs
 
 returns-2 : tie.Need-returns-2
 returns-2 c =
@@ -84,21 +57,6 @@ returns-2 c =
 pub pattern-spec : {M : Type 1} → statement M
 pattern-spec =
     tie.close
-    (tie.spec
-    returns
-    add-w
-    sub-derive
-    part-d-start
-    part-d-end
-    sub-derive-2
-    part-e-start
-    part-e-end
-    sub-derive-3
-    part-f-start
-    part-f-end
-    sub-derive-4
-    part-h-start
-    part-h-end
-    derive-requires
-    same-length
-    returns-2)
+    (tie.spec returns add-w (λ c. search needs) (λ c. search needs) part-d-end (λ c. search needs) (λ c. search needs) part-e-end
+    (λ c. search needs) (λ c. search needs) part-f-end (λ c. search needs) (λ c. search needs) part-h-end derive-requires
+    (λ c. search needs) returns-2)

@@ -10,11 +10,8 @@ slice-write-p c = search (needs, zeros-room)
 slice-write-p-2 : tie.Need-slice-write-p-2
 slice-write-p-2 c = search (needs, zeros-room)
 
-same-length : tie.Need-same-length
-same-length c = search needs
-
 returns : tie.Need-returns
 returns c = search (needs, modulus-set)
 
 pub put-modulus-spec : {M : Type 1} → statement M
-put-modulus-spec = tie.close (tie.spec slice-write-p slice-write-p-2 same-length returns)
+put-modulus-spec = tie.close (tie.spec slice-write-p slice-write-p-2 (λ c. search needs) returns)

@@ -14,17 +14,8 @@ Inv-loop h out₀ n at₀ k₀ out at k =
 abbrev μ-loop : tie.MeasureT-loop
 μ-loop h out₀ n at₀ k₀ out at k = n - k
 
-size-requires : tie.Need-size-requires Inv-loop μ-loop
-size-requires c κs = search needs
-
 loop-holds : tie.Need-loop-holds Inv-loop μ-loop
 loop-holds c = search (needs, steps-begun)
-
-sub-put-step : tie.Need-sub-put-step Inv-loop μ-loop
-sub-put-step c = search needs
-
-sub-put-step-2 : tie.Need-sub-put-step-2 Inv-loop μ-loop
-sub-put-step-2 c = search needs
 
 shared-slice-read-put-step : tie.Need-shared-slice-read-put-step Inv-loop μ-loop
 shared-slice-read-put-step c = search (needs, steps-read)
@@ -32,17 +23,8 @@ shared-slice-read-put-step c = search (needs, steps-read)
 put-step-requires : tie.Need-put-step-requires Inv-loop μ-loop
 put-step-requires c κs = search (needs, steps-room, steps-few)
 
-add-k : tie.Need-add-k Inv-loop μ-loop
-add-k c = search needs
-
-loop-less : tie.Need-loop-less Inv-loop μ-loop
-loop-less c = search needs
-
 loop-again : tie.Need-loop-again Inv-loop μ-loop
 loop-again c = search (needs, steps-next)
-
-same-length : tie.Need-same-length Inv-loop μ-loop
-same-length c = search needs
 
 returns : tie.Need-returns Inv-loop μ-loop
 returns c = search (needs, steps-written, steps-counted)
@@ -50,17 +32,5 @@ returns c = search (needs, steps-written, steps-counted)
 pub put-steps-spec : {M : Type 1} → statement M
 put-steps-spec =
     tie.close
-    (tie.spec
-    Inv-loop
-    μ-loop
-    size-requires
-    loop-holds
-    sub-put-step
-    sub-put-step-2
-    shared-slice-read-put-step
-    put-step-requires
-    add-k
-    loop-less
-    loop-again
-    same-length
-    returns)
+    (tie.spec Inv-loop μ-loop (λ c κs. search needs) loop-holds (λ c. search needs) (λ c. search needs) shared-slice-read-put-step
+    put-step-requires (λ c. search needs) (λ c. search needs) loop-again (λ c. search needs) returns)
