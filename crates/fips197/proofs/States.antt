@@ -2,7 +2,6 @@
 use mathlib.Core.Path.{_≡_, refl, sym, ap, ap₂, _∙_}
 use mathlib.Core.List.{List, [], _∷_, map}
 use Prim.Native.Nat.{ℕ, zero, suc, _+_, _-_, _*_, _/_, _%_, _<_}
-use native.Mathlib.Nat.{not-suc-le-zero, le-of-suc-le-suc}
 use lib.ListN.{length, getD, length-map}
 use Rattle.fips197.specs.Block.{Bytes, Block, tabulate}
 use Rattle.fips197.specs.Aes.{cell, state, sbox, invSbox, subBytes, invSubBytes, shiftRows, invShiftRows, columnwise, mixed, invMixed, mixColumns, invMixColumns}
@@ -11,15 +10,6 @@ use Rattle.fips197.proofs.TableRules.{sbox-lt, inv-sbox-lt, inv-sbox, s
 use Rattle.fips197.proofs.Mixing.{mixed-lt, invMixed-lt, inv-mixed, mixed-inv}
 
 -- ---- tabulated lists
-
-pub tabulate-length : (n : ℕ) (f : ℕ → ℕ) → length (tabulate n f) ≡ n
-tabulate-length zero f = refl
-tabulate-length (suc n) f = ap suc (tabulate-length n (λ i. f (suc i)))
-
-pub tabulate-at : (n : ℕ) (f : ℕ → ℕ) (i : ℕ) → i < n → getD (tabulate n f) i 0 ≡ f i
-tabulate-at zero f i h = absurd (not-suc-le-zero h)
-tabulate-at (suc n) f zero h = refl
-tabulate-at (suc n) f (suc i) h = tabulate-at n (λ i. f (suc i)) i (le-of-suc-le-suc h)
 
 pub tabulate-bytes : (n : ℕ) (f : ℕ → ℕ) → ((i : ℕ) → f i < 256) → Bytes (tabulate n f)
 tabulate-bytes zero f h = tt

@@ -1,6 +1,6 @@
 -- A rule of a table, proved at all of its entries by one test that antt computes, one entry after the other.
 -- Assumes nothing.
-use mathlib.Core.Path.{_∙_, subst, sym}
+use mathlib.Core.Path.{_≡_, refl, _∙_, subst, sym}
 use mathlib.Core.Bool.{Bool, true, false}
 use mathlib.Core.List.{List, [], _∷_}
 use Prim.Native.Nat.{ℕ, zero, suc, _+_, _<_}
@@ -8,6 +8,7 @@ use native.Mathlib.Nat.{add-zero, zero-add, add-suc, suc-add, le-of-suc-le-suc, 
 use mathlib.Core.Logic.{⊎-elim}
 use lib.Dec.{T}
 use lib.ListN.{length, getD}
+use Rattle.fips197.specs.Block.{tabulate}
 
 abbrev pub both : Bool → Bool → Bool
 both true b = b
@@ -46,3 +47,10 @@ below f zero t k h = absurd (not-suc-le-zero h)
 below f (suc n) t k h =
     ⊎-elim (λ e. subst (λ (m : ℕ). T (f m)) (sym e) (both-left (f n) (allBelow f n) t))
     (λ l. below f n (both-right (f n) (allBelow f n) t) k l) (eq-or-lt-of-le (le-of-suc-le-suc h))
+
+-- ---- a table made by its rule
+
+pub tabulate-at : (n : ℕ) (f : ℕ → ℕ) (i : ℕ) → i < n → getD (tabulate n f) i 0 ≡ f i
+tabulate-at zero f i h = absurd (not-suc-le-zero h)
+tabulate-at (suc n) f zero h = refl
+tabulate-at (suc n) f (suc i) h = tabulate-at n (λ i. f (suc i)) i (le-of-suc-le-suc h)

@@ -1,113 +1,117 @@
--- FIPS 197's tables as lists, and the rule of each by one computed test over the whole table (Table's `at`).
+-- FIPS 197's tables as their rules give them. The code's tables are compared with these, entry by entry, by computation; no table is
+-- written down here. What the rules give is computed at every byte (Table's `below`).
 use mathlib.Core.Path.{_≡_, refl, sym, ap, _∙_, subst}
 use mathlib.Core.Bool.{Bool, true, false}
-use mathlib.Core.List.{List, [], _∷_}
-use Prim.Native.Nat.{ℕ, zero, suc, _-_, _≤_, _<_, _+_}
+use mathlib.Core.List.{List, _∷_}
+use Prim.Native.Nat.{ℕ, zero, suc, _+_, _-_, _%_, _≤_, _<_}
 use native.Mathlib.Nat.{not-suc-le-zero, le-of-suc-le-suc}
 use native.Mathlib.Omega.{arith}
 use lib.Arith.{lt-of-le-ne}
 use lib.Dec.{T, eqb, eqb→eq, ltb, ltb→lt}
 use lib.ListN.{getD}
-use Rattle.fips197.specs.Block.{Tabulates}
+use lib.Bits.{bitXor}
+use Rattle.fips197.specs.Block.{Tabulates, tabulate}
 use Rattle.fips197.specs.Field.{xtimes, productBy, _•_, powerBy, power, inverse}
 use Rattle.fips197.specs.Aes.{bit, byteOf, affine, sbox, preimage, invSbox}
 use borrow.Author.Tests.{eqb-true, eqb-false}
-use Rattle.fips197.proofs.Table.{at, both, both-left, both-right, below}
-
-unfoldable pub sboxTable : List ℕ
-sboxTable =
-    0x63 ∷ 0x7c ∷ 0x77 ∷ 0x7b ∷ 0xf2 ∷ 0x6b ∷ 0x6f ∷ 0xc5 ∷ 0x30 ∷ 0x01 ∷ 0x67 ∷ 0x2b ∷ 0xfe ∷ 0xd7 ∷ 0xab ∷ 0x76 ∷
-    0xca ∷ 0x82 ∷ 0xc9 ∷ 0x7d ∷ 0xfa ∷ 0x59 ∷ 0x47 ∷ 0xf0 ∷ 0xad ∷ 0xd4 ∷ 0xa2 ∷ 0xaf ∷ 0x9c ∷ 0xa4 ∷ 0x72 ∷ 0xc0 ∷
-    0xb7 ∷ 0xfd ∷ 0x93 ∷ 0x26 ∷ 0x36 ∷ 0x3f ∷ 0xf7 ∷ 0xcc ∷ 0x34 ∷ 0xa5 ∷ 0xe5 ∷ 0xf1 ∷ 0x71 ∷ 0xd8 ∷ 0x31 ∷ 0x15 ∷
-    0x04 ∷ 0xc7 ∷ 0x23 ∷ 0xc3 ∷ 0x18 ∷ 0x96 ∷ 0x05 ∷ 0x9a ∷ 0x07 ∷ 0x12 ∷ 0x80 ∷ 0xe2 ∷ 0xeb ∷ 0x27 ∷ 0xb2 ∷ 0x75 ∷
-    0x09 ∷ 0x83 ∷ 0x2c ∷ 0x1a ∷ 0x1b ∷ 0x6e ∷ 0x5a ∷ 0xa0 ∷ 0x52 ∷ 0x3b ∷ 0xd6 ∷ 0xb3 ∷ 0x29 ∷ 0xe3 ∷ 0x2f ∷ 0x84 ∷
-    0x53 ∷ 0xd1 ∷ 0x00 ∷ 0xed ∷ 0x20 ∷ 0xfc ∷ 0xb1 ∷ 0x5b ∷ 0x6a ∷ 0xcb ∷ 0xbe ∷ 0x39 ∷ 0x4a ∷ 0x4c ∷ 0x58 ∷ 0xcf ∷
-    0xd0 ∷ 0xef ∷ 0xaa ∷ 0xfb ∷ 0x43 ∷ 0x4d ∷ 0x33 ∷ 0x85 ∷ 0x45 ∷ 0xf9 ∷ 0x02 ∷ 0x7f ∷ 0x50 ∷ 0x3c ∷ 0x9f ∷ 0xa8 ∷
-    0x51 ∷ 0xa3 ∷ 0x40 ∷ 0x8f ∷ 0x92 ∷ 0x9d ∷ 0x38 ∷ 0xf5 ∷ 0xbc ∷ 0xb6 ∷ 0xda ∷ 0x21 ∷ 0x10 ∷ 0xff ∷ 0xf3 ∷ 0xd2 ∷
-    0xcd ∷ 0x0c ∷ 0x13 ∷ 0xec ∷ 0x5f ∷ 0x97 ∷ 0x44 ∷ 0x17 ∷ 0xc4 ∷ 0xa7 ∷ 0x7e ∷ 0x3d ∷ 0x64 ∷ 0x5d ∷ 0x19 ∷ 0x73 ∷
-    0x60 ∷ 0x81 ∷ 0x4f ∷ 0xdc ∷ 0x22 ∷ 0x2a ∷ 0x90 ∷ 0x88 ∷ 0x46 ∷ 0xee ∷ 0xb8 ∷ 0x14 ∷ 0xde ∷ 0x5e ∷ 0x0b ∷ 0xdb ∷
-    0xe0 ∷ 0x32 ∷ 0x3a ∷ 0x0a ∷ 0x49 ∷ 0x06 ∷ 0x24 ∷ 0x5c ∷ 0xc2 ∷ 0xd3 ∷ 0xac ∷ 0x62 ∷ 0x91 ∷ 0x95 ∷ 0xe4 ∷ 0x79 ∷
-    0xe7 ∷ 0xc8 ∷ 0x37 ∷ 0x6d ∷ 0x8d ∷ 0xd5 ∷ 0x4e ∷ 0xa9 ∷ 0x6c ∷ 0x56 ∷ 0xf4 ∷ 0xea ∷ 0x65 ∷ 0x7a ∷ 0xae ∷ 0x08 ∷
-    0xba ∷ 0x78 ∷ 0x25 ∷ 0x2e ∷ 0x1c ∷ 0xa6 ∷ 0xb4 ∷ 0xc6 ∷ 0xe8 ∷ 0xdd ∷ 0x74 ∷ 0x1f ∷ 0x4b ∷ 0xbd ∷ 0x8b ∷ 0x8a ∷
-    0x70 ∷ 0x3e ∷ 0xb5 ∷ 0x66 ∷ 0x48 ∷ 0x03 ∷ 0xf6 ∷ 0x0e ∷ 0x61 ∷ 0x35 ∷ 0x57 ∷ 0xb9 ∷ 0x86 ∷ 0xc1 ∷ 0x1d ∷ 0x9e ∷
-    0xe1 ∷ 0xf8 ∷ 0x98 ∷ 0x11 ∷ 0x69 ∷ 0xd9 ∷ 0x8e ∷ 0x94 ∷ 0x9b ∷ 0x1e ∷ 0x87 ∷ 0xe9 ∷ 0xce ∷ 0x55 ∷ 0x28 ∷ 0xdf ∷
-    0x8c ∷ 0xa1 ∷ 0x89 ∷ 0x0d ∷ 0xbf ∷ 0xe6 ∷ 0x42 ∷ 0x68 ∷ 0x41 ∷ 0x99 ∷ 0x2d ∷ 0x0f ∷ 0xb0 ∷ 0x54 ∷ 0xbb ∷ 0x16 ∷ []
-
-unfoldable pub invSboxTable : List ℕ
-invSboxTable =
-    0x52 ∷ 0x09 ∷ 0x6a ∷ 0xd5 ∷ 0x30 ∷ 0x36 ∷ 0xa5 ∷ 0x38 ∷ 0xbf ∷ 0x40 ∷ 0xa3 ∷ 0x9e ∷ 0x81 ∷ 0xf3 ∷ 0xd7 ∷ 0xfb ∷
-    0x7c ∷ 0xe3 ∷ 0x39 ∷ 0x82 ∷ 0x9b ∷ 0x2f ∷ 0xff ∷ 0x87 ∷ 0x34 ∷ 0x8e ∷ 0x43 ∷ 0x44 ∷ 0xc4 ∷ 0xde ∷ 0xe9 ∷ 0xcb ∷
-    0x54 ∷ 0x7b ∷ 0x94 ∷ 0x32 ∷ 0xa6 ∷ 0xc2 ∷ 0x23 ∷ 0x3d ∷ 0xee ∷ 0x4c ∷ 0x95 ∷ 0x0b ∷ 0x42 ∷ 0xfa ∷ 0xc3 ∷ 0x4e ∷
-    0x08 ∷ 0x2e ∷ 0xa1 ∷ 0x66 ∷ 0x28 ∷ 0xd9 ∷ 0x24 ∷ 0xb2 ∷ 0x76 ∷ 0x5b ∷ 0xa2 ∷ 0x49 ∷ 0x6d ∷ 0x8b ∷ 0xd1 ∷ 0x25 ∷
-    0x72 ∷ 0xf8 ∷ 0xf6 ∷ 0x64 ∷ 0x86 ∷ 0x68 ∷ 0x98 ∷ 0x16 ∷ 0xd4 ∷ 0xa4 ∷ 0x5c ∷ 0xcc ∷ 0x5d ∷ 0x65 ∷ 0xb6 ∷ 0x92 ∷
-    0x6c ∷ 0x70 ∷ 0x48 ∷ 0x50 ∷ 0xfd ∷ 0xed ∷ 0xb9 ∷ 0xda ∷ 0x5e ∷ 0x15 ∷ 0x46 ∷ 0x57 ∷ 0xa7 ∷ 0x8d ∷ 0x9d ∷ 0x84 ∷
-    0x90 ∷ 0xd8 ∷ 0xab ∷ 0x00 ∷ 0x8c ∷ 0xbc ∷ 0xd3 ∷ 0x0a ∷ 0xf7 ∷ 0xe4 ∷ 0x58 ∷ 0x05 ∷ 0xb8 ∷ 0xb3 ∷ 0x45 ∷ 0x06 ∷
-    0xd0 ∷ 0x2c ∷ 0x1e ∷ 0x8f ∷ 0xca ∷ 0x3f ∷ 0x0f ∷ 0x02 ∷ 0xc1 ∷ 0xaf ∷ 0xbd ∷ 0x03 ∷ 0x01 ∷ 0x13 ∷ 0x8a ∷ 0x6b ∷
-    0x3a ∷ 0x91 ∷ 0x11 ∷ 0x41 ∷ 0x4f ∷ 0x67 ∷ 0xdc ∷ 0xea ∷ 0x97 ∷ 0xf2 ∷ 0xcf ∷ 0xce ∷ 0xf0 ∷ 0xb4 ∷ 0xe6 ∷ 0x73 ∷
-    0x96 ∷ 0xac ∷ 0x74 ∷ 0x22 ∷ 0xe7 ∷ 0xad ∷ 0x35 ∷ 0x85 ∷ 0xe2 ∷ 0xf9 ∷ 0x37 ∷ 0xe8 ∷ 0x1c ∷ 0x75 ∷ 0xdf ∷ 0x6e ∷
-    0x47 ∷ 0xf1 ∷ 0x1a ∷ 0x71 ∷ 0x1d ∷ 0x29 ∷ 0xc5 ∷ 0x89 ∷ 0x6f ∷ 0xb7 ∷ 0x62 ∷ 0x0e ∷ 0xaa ∷ 0x18 ∷ 0xbe ∷ 0x1b ∷
-    0xfc ∷ 0x56 ∷ 0x3e ∷ 0x4b ∷ 0xc6 ∷ 0xd2 ∷ 0x79 ∷ 0x20 ∷ 0x9a ∷ 0xdb ∷ 0xc0 ∷ 0xfe ∷ 0x78 ∷ 0xcd ∷ 0x5a ∷ 0xf4 ∷
-    0x1f ∷ 0xdd ∷ 0xa8 ∷ 0x33 ∷ 0x88 ∷ 0x07 ∷ 0xc7 ∷ 0x31 ∷ 0xb1 ∷ 0x12 ∷ 0x10 ∷ 0x59 ∷ 0x27 ∷ 0x80 ∷ 0xec ∷ 0x5f ∷
-    0x60 ∷ 0x51 ∷ 0x7f ∷ 0xa9 ∷ 0x19 ∷ 0xb5 ∷ 0x4a ∷ 0x0d ∷ 0x2d ∷ 0xe5 ∷ 0x7a ∷ 0x9f ∷ 0x93 ∷ 0xc9 ∷ 0x9c ∷ 0xef ∷
-    0xa0 ∷ 0xe0 ∷ 0x3b ∷ 0x4d ∷ 0xae ∷ 0x2a ∷ 0xf5 ∷ 0xb0 ∷ 0xc8 ∷ 0xeb ∷ 0xbb ∷ 0x3c ∷ 0x83 ∷ 0x53 ∷ 0x99 ∷ 0x61 ∷
-    0x17 ∷ 0x2b ∷ 0x04 ∷ 0x7e ∷ 0xba ∷ 0x77 ∷ 0xd6 ∷ 0x26 ∷ 0xe1 ∷ 0x69 ∷ 0x14 ∷ 0x63 ∷ 0x55 ∷ 0x21 ∷ 0x0c ∷ 0x7d ∷ []
-
-unfoldable pub rconTable : List ℕ
-rconTable =
-    0x00 ∷ 0x01 ∷ 0x02 ∷ 0x04 ∷ 0x08 ∷ 0x10 ∷ 0x20 ∷ 0x40 ∷ 0x80 ∷ 0x1b ∷ 0x36 ∷ []
+use Rattle.fips197.proofs.Table.{tabulate-at, both, both-left, both-right, below}
 
 -- ---- the S-box is the inverse in the field, then the affine map
+
+unfoldable pub sboxTable : List ℕ
+sboxTable = tabulate 256 sbox
+
+pub sbox-table : Tabulates sboxTable sbox
+unfolding sboxTable
+sbox-table k h = tabulate-at 256 sbox k h
 
 -- 1 but for 0, which has no inverse
 abbrev pub one : ℕ → ℕ
 one zero = 0
 one (suc k) = 1
 
-isSbox : ℕ → ℕ → Bool
-isSbox k x = let v = inverse k in both (eqb x (affine v)) (eqb (k • v) (one k))
+-- what `inverse` gives is a byte, the inverse, and goes back
+isInverse : ℕ → ℕ → Bool
+isInverse k v = both (ltb v 256) (both (eqb (k • v) (one k)) (eqb (inverse v) k))
 
-sbox-test : (k : ℕ) → k < 256 → T (isSbox k (getD sboxTable k 0))
-unfolding sboxTable isSbox affine byteOf bit inverse power powerBy _•_ productBy xtimes
-sbox-test k h = at isSbox sboxTable tt k h
+inverse-test : (k : ℕ) → k < 256 → T (isInverse k (inverse k))
+unfolding isInverse inverse power powerBy _•_ productBy xtimes
+inverse-test k h = below (λ k. isInverse k (inverse k)) 256 tt k h
 
-pub sbox-table : Tabulates sboxTable sbox
-unfolding isSbox sbox
-sbox-table k h = eqb→eq (getD sboxTable k 0) (sbox k) (both-left (eqb (getD sboxTable k 0) (affine (inverse k))) (eqb (k • inverse k) (one k)) (sbox-test k h))
+inverse-lt : (k : ℕ) → k < 256 → inverse k < 256
+unfolding isInverse
+inverse-lt k h =
+    ltb→lt (inverse k) 256 (both-left (ltb (inverse k) 256) (both (eqb (k • inverse k) (one k)) (eqb (inverse (inverse k)) k)) (inverse-test k h))
+
+inverse-both : (k : ℕ) → k < 256 → T (both (eqb (k • inverse k) (one k)) (eqb (inverse (inverse k)) k))
+unfolding isInverse
+inverse-both k h = both-right (ltb (inverse k) 256) (both (eqb (k • inverse k) (one k)) (eqb (inverse (inverse k)) k)) (inverse-test k h)
 
 -- what `inverse` gives is the inverse
 pub inverse-rule : (k : ℕ) → k < 256 → k • inverse k ≡ one k
-unfolding isSbox
-inverse-rule k h = eqb→eq (k • inverse k) (one k) (both-right (eqb (getD sboxTable k 0) (affine (inverse k))) (eqb (k • inverse k) (one k)) (sbox-test k h))
+inverse-rule k h = eqb→eq (k • inverse k) (one k) (both-left (eqb (k • inverse k) (one k)) (eqb (inverse (inverse k)) k) (inverse-both k h))
 
-small : ℕ → ℕ → Bool
-small k x = ltb x 256
+inverse-twice : (k : ℕ) → k < 256 → inverse (inverse k) ≡ k
+inverse-twice k h = eqb→eq (inverse (inverse k)) k (both-right (eqb (k • inverse k) (one k)) (eqb (inverse (inverse k)) k) (inverse-both k h))
 
-sboxTable-lt : (k : ℕ) → k < 256 → getD sboxTable k 0 < 256
-unfolding sboxTable small
-sboxTable-lt k h = ltb→lt (getD sboxTable k 0) 256 (at small sboxTable tt k h)
+-- ---- the affine map, and 5.3.2's way back
+
+unfoldable pub unaffine : ℕ → ℕ
+unaffine b = bitXor (byteOf (λ i. (bit b (i + 2) + bit b (i + 5) + bit b (i + 7)) % 2)) 0x05
+
+isBijection : ℕ → Bool
+isBijection k = both (both (ltb (affine k) 256) (ltb (unaffine k) 256)) (both (eqb (unaffine (affine k)) k) (eqb (affine (unaffine k)) k))
+
+affine-test : (k : ℕ) → k < 256 → T (isBijection k)
+unfolding isBijection affine unaffine byteOf bit
+affine-test k h = below isBijection 256 tt k h
+
+module _ (k : ℕ) (h : k < 256) where
+  affine-small : T (both (ltb (affine k) 256) (ltb (unaffine k) 256))
+  unfolding isBijection
+  affine-small =
+      both-left (both (ltb (affine k) 256) (ltb (unaffine k) 256)) (both (eqb (unaffine (affine k)) k) (eqb (affine (unaffine k)) k)) (affine-test k h)
+
+  affine-round : T (both (eqb (unaffine (affine k)) k) (eqb (affine (unaffine k)) k))
+  unfolding isBijection
+  affine-round =
+      both-right (both (ltb (affine k) 256) (ltb (unaffine k) 256)) (both (eqb (unaffine (affine k)) k) (eqb (affine (unaffine k)) k)) (affine-test k h)
+
+  affine-lt : affine k < 256
+  affine-lt = ltb→lt (affine k) 256 (both-left (ltb (affine k) 256) (ltb (unaffine k) 256) affine-small)
+
+  unaffine-lt : unaffine k < 256
+  unaffine-lt = ltb→lt (unaffine k) 256 (both-right (ltb (affine k) 256) (ltb (unaffine k) 256) affine-small)
+
+  unaffine-affine : unaffine (affine k) ≡ k
+  unaffine-affine = eqb→eq (unaffine (affine k)) k (both-left (eqb (unaffine (affine k)) k) (eqb (affine (unaffine k)) k) affine-round)
+
+  affine-unaffine : affine (unaffine k) ≡ k
+  affine-unaffine = eqb→eq (affine (unaffine k)) k (both-right (eqb (unaffine (affine k)) k) (eqb (affine (unaffine k)) k) affine-round)
 
 pub sbox-lt : (k : ℕ) → k < 256 → sbox k < 256
-sbox-lt k h = subst (λ (x : ℕ). x < 256) (sbox-table k h) (sboxTable-lt k h)
+unfolding sbox
+sbox-lt k h = affine-lt (inverse k) (inverse-lt k h)
 
 -- ---- the inverse S-box undoes it
 
-invSboxTable-lt : (k : ℕ) → k < 256 → getD invSboxTable k 0 < 256
-unfolding invSboxTable small
-invSboxTable-lt k h = ltb→lt (getD invSboxTable k 0) 256 (at small invSboxTable tt k h)
+unfoldable pub way-back : ℕ → ℕ
+way-back b = inverse (unaffine b)
 
-back : ℕ → ℕ → Bool
-back k x = eqb (getD invSboxTable x 0) k
+unfoldable pub invSboxTable : List ℕ
+invSboxTable = tabulate 256 way-back
 
-table-back : (k : ℕ) → k < 256 → getD invSboxTable (getD sboxTable k 0) 0 ≡ k
-unfolding sboxTable invSboxTable back
-table-back k h = eqb→eq (getD invSboxTable (getD sboxTable k 0) 0) k (at back sboxTable tt k h)
+way-back-lt : (k : ℕ) → k < 256 → way-back k < 256
+unfolding way-back
+way-back-lt k h = inverse-lt (unaffine k) (unaffine-lt k h)
 
-forth : ℕ → ℕ → Bool
-forth k x = eqb (getD sboxTable x 0) k
+back : (k : ℕ) → k < 256 → way-back (sbox k) ≡ k
+unfolding way-back sbox
+back k h = ap inverse (unaffine-affine (inverse k) (inverse-lt k h)) ∙ inverse-twice k h
 
-table-forth : (k : ℕ) → k < 256 → getD sboxTable (getD invSboxTable k 0) 0 ≡ k
-unfolding sboxTable invSboxTable forth
-table-forth k h = eqb→eq (getD sboxTable (getD invSboxTable k 0) 0) k (at forth invSboxTable tt k h)
+forth : (k : ℕ) → k < 256 → sbox (way-back k) ≡ k
+unfolding way-back sbox
+forth k h = ap affine (inverse-twice (unaffine k) (unaffine-lt k h)) ∙ affine-unaffine k h
 
 -- a number below n that f sends to y is the one that is found, where no other is sent to y
 preimage-is : (f : ℕ → ℕ) (y n x : ℕ) → x < n → f x ≡ y → ((i : ℕ) → i < n → f i ≡ y → i ≡ x) → preimage f y n ≡ x
@@ -120,34 +124,31 @@ preimage-is f y (suc n) x h e u = go (eqb (f n) y) refl (λ l. preimage-is f y n
     go false q r = rw q (r (lt-of-le-ne (le-of-suc-le-suc h) (λ (p : x ≡ n). eqb-false (f n) y q (ap f (sym p) ∙ e))))
 
 sbox-one : (i j : ℕ) → i < 256 → j < 256 → sbox i ≡ sbox j → i ≡ j
-sbox-one i j hi hj e =
-    sym (table-back i hi) ∙ ap (λ (x : ℕ). getD invSboxTable x 0) (sbox-table i hi ∙ e ∙ sym (sbox-table j hj)) ∙ table-back j hj
+sbox-one i j hi hj e = sym (back i hi) ∙ ap way-back e ∙ back j hj
 
 pub inv-sbox : (k : ℕ) → k < 256 → invSbox (sbox k) ≡ k
 unfolding invSbox
 inv-sbox k h = preimage-is sbox (sbox k) 256 k h refl (λ i l e. sbox-one i k l h e)
 
+way-back-is : (k : ℕ) → k < 256 → way-back k ≡ invSbox k
+way-back-is k h = sym (inv-sbox (way-back k) (way-back-lt k h)) ∙ ap invSbox (forth k h)
+
 pub inv-sbox-table : Tabulates invSboxTable invSbox
-inv-sbox-table k h =
-    let x = getD invSboxTable k 0 in
-    let l : x < 256 = invSboxTable-lt k h in
-    sym (inv-sbox x l) ∙ ap invSbox (sym (sbox-table x l) ∙ table-forth k h)
+unfolding invSboxTable
+inv-sbox-table k h = tabulate-at 256 way-back k h ∙ way-back-is k h
 
 pub inv-sbox-lt : (k : ℕ) → k < 256 → invSbox k < 256
-inv-sbox-lt k h = subst (λ (x : ℕ). x < 256) (inv-sbox-table k h) (invSboxTable-lt k h)
+inv-sbox-lt k h = subst (λ (x : ℕ). x < 256) (way-back-is k h) (way-back-lt k h)
 
 pub sbox-inv : (k : ℕ) → k < 256 → sbox (invSbox k) ≡ k
-sbox-inv k h =
-    ap sbox (sym (inv-sbox-table k h)) ∙ sym (sbox-table (getD invSboxTable k 0) (invSboxTable-lt k h)) ∙ table-forth k h
+sbox-inv k h = ap sbox (sym (way-back-is k h)) ∙ forth k h
 
 -- ---- the round constants
 
-isRcon : ℕ → Bool
-isRcon j = eqb (getD rconTable (j + 1) 0) (power 2 j)
+unfoldable pub rconTable : List ℕ
+rconTable = 0 ∷ tabulate 10 (power 2)
 
 pub rcon-table : (j : ℕ) → 1 ≤ j → j ≤ 10 → getD rconTable j 0 ≡ power 2 (j - 1)
-unfolding rconTable isRcon power powerBy _•_ productBy xtimes
-rcon-table j l h =
-    let e : j - 1 + 1 ≡ j = omega arith in
-    ap (λ (i : ℕ). getD rconTable i 0) (sym e)
-    ∙ eqb→eq (getD rconTable (j - 1 + 1) 0) (power 2 (j - 1)) (below isRcon 10 tt (j - 1) (omega arith))
+unfolding rconTable
+rcon-table zero l h = absurd (omega arith)
+rcon-table (suc j) l h = let e : suc j - 1 ≡ j = omega arith in tabulate-at 10 (power 2) j (omega arith) ∙ ap (power 2) (sym e)

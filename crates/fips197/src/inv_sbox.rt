@@ -1,5 +1,5 @@
-// FIPS 197, 5.3.2, table 6: the inverse S-box. It is proved to undo the S-box, by one test over the whole table
-// (proofs/TableRules.antt).
+// FIPS 197, 5.3.2, table 6: the inverse S-box. It is proved to undo the S-box: each entry is compared with the affine map undone and then
+// the inverse in the field (proofs/TableRules.antt).
 ghost use Rattle.fips197.specs.Block.{Tabulates};
 ghost use Rattle.fips197.specs.Aes.{invSbox};
 

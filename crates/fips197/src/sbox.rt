@@ -1,4 +1,4 @@
-// FIPS 197, 5.1.1, table 4: the S-box. It is proved to be what its rule gives, by one test over the whole table
+// FIPS 197, 5.1.1, table 4: the S-box. It is proved to be what its rule gives: each entry is compared with the rule's, by computation
 // (proofs/TableRules.antt).
 ghost use mathlib.Core.Path.{_≡_};
 ghost use Prim.Native.Nat.{ℕ};

@@ -129,21 +129,13 @@ module _ (m t d : ℕ) (D P : List ℕ) (R : Rules m t d D P) where
       ∙ many-under (λ e. hit (e + δ)) m D (R .below)
       ∙ once-at δ l u
 
-  -- property B: two cards share one row, and two rows one card. First where the other stands δ further round.
+  -- property B: two cards share one row. First where the other stands δ further round.
   columns-by : (δ j k : ℕ) → 1 ≤ δ → δ < m → 1 ≤ j → j ≤ m → 1 ≤ k → k ≤ m
       → ((i : ℕ) → 1 ≤ i → i ≤ m → (k + m - i) % m ≡ (j + m - i + δ) % m) → countUpTo (λ i. on m D i j && on m D i k) m ≡ 1
   columns-by δ j k l u lj uj lk uk h =
       count-ext (λ i. on m D i j && on m D i k) (λ i. twice δ (j + m - i)) m
       (λ i a b. ap₂ _&&_ (on-inside m D i j a b lj uj) (on-inside m D i k a b lk uk ∙ ap (λ (y : ℕ). member y D) (h i a b)))
       ∙ down (twice δ) (twice-again δ) j lj
-      ∙ twice-once δ l u
-
-  rows-by : (δ i k : ℕ) → 1 ≤ δ → δ < m → 1 ≤ i → i ≤ m → 1 ≤ k → k ≤ m
-      → ((j : ℕ) → 1 ≤ j → j ≤ m → (j + m - k) % m ≡ (j + m - i + δ) % m) → countUpTo (λ j. on m D i j && on m D k j) m ≡ 1
-  rows-by δ i k l u li ui lk uk h =
-      count-ext (λ j. on m D i j && on m D k j) (λ j. twice δ (j + m - i)) m
-      (λ j a b. ap₂ _&&_ (on-inside m D i j li ui a b) (on-inside m D k j lk uk a b ∙ ap (λ (y : ℕ). member y D) (h j a b)))
-      ∙ up (twice δ) (twice-again δ) i ui
       ∙ twice-once δ l u
 
   pub columns-share : (j k : ℕ) → 1 ≤ j → j ≤ m → 1 ≤ k → k ≤ m → (k ≡ j → ⊥) → countUpTo (λ i. on m D i j && on m D i k) m ≡ 1
@@ -158,19 +150,6 @@ module _ (m t d : ℕ) (D P : List ℕ) (R : Rules m t d D P) where
           let l : k < j = omega (arith, ltb-false j k e) in
           columns-by (m + k - j) j k (omega arith) (omega arith) lj uj lk uk
           (λ i a b. let z : j + m - i + (m + k - j) ≡ k + m - i + m = omega arith in rw (z, add-mod-right (k + m - i) m))
-
-  pub rows-share : (i k : ℕ) → 1 ≤ i → i ≤ m → 1 ≤ k → k ≤ m → (k ≡ i → ⊥) → countUpTo (λ j. on m D i j && on m D k j) m ≡ 1
-  rows-share i k li ui lk uk ne = go (ltb k i) refl
-    where
-      go : (b : Bool) → ltb k i ≡ b → countUpTo (λ j. on m D i j && on m D k j) m ≡ 1
-      go true e =
-          let l : k < i = ltb-true k i e in
-          rows-by (i - k) i k (omega arith) (omega arith) li ui lk uk
-          (λ j a b. let z : j + m - k ≡ j + m - i + (i - k) = omega arith in ap (λ (y : ℕ). y % m) z)
-      go false e =
-          let l : i < k = omega (arith, ltb-false k i e) in
-          rows-by (m + i - k) i k (omega arith) (omega arith) li ui lk uk
-          (λ j a b. let z : j + m - i + (m + i - k) ≡ j + m - k + m = omega arith in rw (z, add-mod-right (j + m - k) m))
 
   -- ---- the pattern
 

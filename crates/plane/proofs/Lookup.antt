@@ -1,7 +1,7 @@
 -- The code's tables are the definitions' lists. A table is tested at each of the five places of a column; past the end both are empty.
 use mathlib.Core.Path.{_≡_, refl, sym, ap, _∙_}
 use mathlib.Core.Bool.{Bool, true, false, _&&_}
-use mathlib.Core.List.{List, [], _∷_}
+use mathlib.Core.List.{List, [], _∷_, _++_}
 use Prim.Native.Nat.{ℕ, zero, suc, _+_, _≤_, _<_}
 use native.Mathlib.Omega.{arith}
 use lib.Dec.{eqb, ltb, leb}
@@ -52,20 +52,16 @@ module _ (flat start : List ℕ) (n : ℕ) (f : ℕ → List ℕ) where
 
 -- ---- the tables
 
+-- the lists one after the other, as the code has them
+abbrev pub joined : List (List ℕ) → List ℕ
+joined [] = []
+joined (l ∷ ls) = l ++ joined ls
+
 unfoldable pub differenceTable : List ℕ
-differenceTable =
-    1 ∷ 2 ∷ 4 ∷
-    3 ∷ 6 ∷ 7 ∷ 12 ∷ 14 ∷
-    1 ∷ 2 ∷ 4 ∷ 8 ∷ 16 ∷ 32 ∷ 37 ∷ 55 ∷ 64 ∷
-    1 ∷ 2 ∷ 4 ∷ 8 ∷ 16 ∷ 32 ∷ 64 ∷ 91 ∷ 117 ∷ 128 ∷ 137 ∷ 182 ∷ 195 ∷ 205 ∷ 234 ∷ 239 ∷ 256 ∷ []
+differenceTable = joined differenceLists
 
 unfoldable pub patternTable : List ℕ
-patternTable =
-    0x02 ∷ 0x03 ∷ 0x04 ∷
-    0x02 ∷ 0x04 ∷ 0x06 ∷ 0x07 ∷ 0x0a ∷
-    0x02 ∷ 0x06 ∷ 0x09 ∷ 0x0a ∷ 0x0b ∷ 0x0e ∷ 0x0f ∷ 0x10 ∷ 0x13 ∷ 0x14 ∷ 0x17 ∷ 0x18 ∷ 0x19 ∷ 0x1b ∷ 0x1c ∷
-    0x02 ∷ 0x04 ∷ 0x08 ∷ 0x0e ∷ 0x11 ∷ 0x13 ∷ 0x15 ∷ 0x16 ∷ 0x18 ∷ 0x19 ∷ 0x1e ∷ 0x1f ∷ 0x20 ∷ 0x22 ∷ 0x24 ∷ 0x28 ∷ 0x2a ∷ 0x2b ∷ 0x2c ∷ 0x2e ∷ 0x30 ∷ 0x31 ∷ 0x35 ∷ 0x37 ∷ 0x38 ∷ 0x39 ∷ 0x3a ∷
-    0x45 ∷ 0x46 ∷ 0x47 ∷ 0x4d ∷ 0x4e ∷ 0x4f ∷ 0x51 ∷ 0x52 ∷ []
+patternTable = joined patternLists
 
 abbrev pub differenceStarts : List ℕ
 differenceStarts = 0 ∷ 0 ∷ 3 ∷ 8 ∷ 17 ∷ []

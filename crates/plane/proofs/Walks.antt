@@ -2,63 +2,25 @@
 use mathlib.Core.Path.{_≡_, refl, sym, ap, _∙_, subst}
 use mathlib.Core.Bool.{Bool, true, false, _&&_}
 use mathlib.Core.List.{List, [], map}
-use Prim.Native.Nat.{ℕ, zero, suc, _+_, _-_, _≤_, _<_, _%_}
+use Prim.Native.Nat.{ℕ, suc, _+_, _-_, _≤_, _<_, _%_}
 use native.Mathlib.Nat.{add-mod-right, mod-eq-of-lt}
 use native.Mathlib.Omega.{arith}
-use lib.Dec.{eqb, ltb, leb}
+use lib.Dec.{ltb, leb}
 use lib.ListN.{length, getD, length-map, List·getD-eq-default}
-use borrow.Author.Tests.{ltb-true, ltb-false, leb-true, leb-false, lt-ltb, le-ltb, le-leb, lt-leb, eqb-true, eqb-false}
+use borrow.Author.Tests.{ltb-true, ltb-false, leb-true, leb-false, lt-ltb, le-ltb, le-leb, lt-leb}
 use Rattle.cipher.specs.Block.{if_then_else_}
 use Rattle.cipher.proofs.Loop.{map-at}
-use Rattle.incidence.specs.Count.{indicator, countUpTo, listed, inside}
+use Rattle.incidence.specs.Count.{countUpTo, listed, inside}
 use Rattle.incidence.specs.Family.{rowsOf, itemsOf}
 use Rattle.incidence.proofs.Booleans.{not-both}
 use Rattle.incidence.proofs.Counting.{inside-low, inside-high, count-ext, count-none}
 use Rattle.incidence.proofs.Listing.{listed-length, listed-rank}
 use Rattle.plane.specs.Table.{planeItems, planeTags, planeLimit, differences, planePattern}
 use Rattle.plane.specs.Plane.{member, on, made, tagged, plane}
-use Rattle.plane.proofs.Ranks.{above, rank, above-at, under-at, member-at, not-member, count-rank, rank-at, rank-before, rank-mono, rank-most, rank-least, rank-length, count-add, count-down}
-use Rattle.plane.proofs.Lookup.{differences-rise, differences-few, items-most, some-low, some-high}
+use Rattle.plane.proofs.Ranks.{rank, above-at, under-at, member-at, rank-at, rank-before, rank-most, rank-least, rank-length, count-add, count-down}
+use Rattle.plane.proofs.Lookup.{differences-rise, differences-few, some-low, some-high}
 use Rattle.plane.proofs.Rules.{rules}
 use Rattle.plane.proofs.Cyclic.{Rules, within-at, on-inside, hit, count-hits, count-all, count-turn, column-weight, row-weight}
-
--- ---- membership by rank
-
-rank-step : (D : List ℕ) → above 0 D ≡ true → (n : ℕ) → rank D (suc n) ≡ rank D n + indicator (member (suc n) D)
-rank-step D h n = sym (count-rank D h (suc n)) ∙ ap (λ (x : ℕ). x + indicator (member (suc n) D)) (count-rank D h n)
-
-bit-zero : (b : Bool) → indicator b ≡ 0 → b ≡ false
-bit-zero true h = absurd (omega arith)
-bit-zero false h = refl
-
-pub no-member : (D : List ℕ) → above 0 D ≡ true → (x : ℕ) → rank D x ≡ 0 → member x D ≡ false
-no-member D h zero e = not-member 0 D h 0 (omega arith)
-no-member D h (suc n) e = bit-zero _ (omega (arith, rank-step D h n))
-
--- the largest difference that is at most x
-pub last-member : (D : List ℕ) → above 0 D ≡ true → (x : ℕ) → 0 < rank D x → eqb (getD D (rank D x - 1) 0) x ≡ member x D
-last-member D h x pos = go (eqb e x) refl
-  where
-    e : ℕ
-    e = getD D (rank D x - 1) 0
-
-    low : rank D x - 1 < length D
-    low = omega (arith, rank-length D x)
-
-    upto : e ≤ x
-    upto = rank-most 0 D h x (rank D x - 1) low (omega arith)
-
-    absent : (y : ℕ) → y ≡ x → e < y → member x D ≡ false
-    absent zero q l = absurd (omega arith)
-    absent (suc n) q l =
-        subst (λ (z : ℕ). member z D ≡ false) q
-        (bit-zero (member (suc n) D) (omega (arith, rank-step D h n, ap (rank D) q, rank-mono D e n (omega arith), rank-at 0 D h (rank D x - 1) low)))
-
-    go : (b : Bool) → eqb e x ≡ b → eqb e x ≡ member x D
-    go true t = t ∙ sym (subst (λ (y : ℕ). member y D ≡ true) (eqb-true e x t) (member-at D (rank D x - 1) low))
-    go false t =
-        let ne : e ≡ x → ⊥ = eqb-false e x t in
-        t ∙ sym (absent x refl (omega (arith, upto)))
 
 -- ---- rows of an item, items of a row
 
@@ -221,20 +183,6 @@ listed-none : (p : ℕ → Bool) (n : ℕ) → ((i : ℕ) → p i ≡ false) →
 listed-none p n h = listed-length p n ∙ none-pass p n h
 
 -- ---- by s, as the code goes
-
-module _ (s i j : ℕ) where
-  pub plane-no-row : inside (planeItems s) i ≡ false → plane s .on i j ≡ false
-  unfolding plane
-  plane-no-row e = on-no-row (planeItems s) (differences s) i j e
-
-  pub plane-no-item : inside (planeItems s) j ≡ false → plane s .on i j ≡ false
-  unfolding plane
-  plane-no-item e = on-no-item (planeItems s) (differences s) i j e
-
-  pub plane-on : inside (planeItems s) i ≡ true → inside (planeItems s) j ≡ true → plane s .on i j ≡ member ((j + planeItems s - i) % planeItems s) (differences s)
-  unfolding plane
-  plane-on p q =
-      on-inside (planeItems s) (differences s) i j (inside-low (planeItems s) i p) (inside-high (planeItems s) i p) (inside-low (planeItems s) j q) (inside-high (planeItems s) j q)
 
 -- a number inside a plane's range has that plane's rules
 inside-rules : (s j : ℕ) → inside (planeItems s) j ≡ true → Rules (planeItems s) (planeTags s) (planeLimit s) (differences s) (planePattern s)
@@ -509,20 +457,3 @@ tag-yes t u i e h = rw (le-leb i t (omega arith))
 pub tag-no : (t u i : ℕ) → u ≡ t → u < i → 0 ≡ tagged t i
 unfolding tagged
 tag-no t u i e h = rw (lt-leb i t (omega arith))
-
--- a row and an item that passed the tests of the code
-pub record Reached (m i j : ℕ) : Type 0 where
-  pub size : m ≤ 273
-  pub row-low : 1 ≤ i
-  pub row-high : i ≤ m
-  pub item-low : 1 ≤ j
-  pub item-high : j ≤ m
-
-pub reached : (s m i j : ℕ) (a b : Bool) → m ≡ planeItems s → a ≡ inside m i → a ≡ true → b ≡ inside m j → b ≡ true → Reached m i j
-reached s m i j a b e f g h k = record {
-  size = omega (arith, items-most s);
-  row-low = inside-low m i (sym f ∙ g);
-  row-high = inside-high m i (sym f ∙ g);
-  item-low = inside-low m j (sym h ∙ k);
-  item-high = inside-high m j (sym h ∙ k);
-}

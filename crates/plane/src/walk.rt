@@ -1,44 +1,20 @@
 // The rows of an item and the items of a row, in rising order. Row i holds item j when (j − i) modulo m is a difference, so both lists
-// follow the difference list from the place where it turns; no pair of row and item is tested. A number out of range gets 0 or false.
+// follow the difference list from the place where it turns; no pair of row and item is tested. No call has a premise. A number out of
+// range gets 0; `row_by` and `item_by` give it where the count handed to them is the right one, and for another count nothing is said of
+// what they give.
 use crate::table;
 ghost use mathlib.Core.Path.{_≡_};
 ghost use Prim.Native.Nat.{_-_, _≤_, _<_};
 ghost use lib.ListN.{length, getD};
 ghost use Rattle.incidence.specs.Count.{countUpTo, inside};
 ghost use Rattle.incidence.specs.Family.{rowsOf, itemsOf};
-ghost use Rattle.plane.specs.Plane.{plane, member};
-ghost use Rattle.plane.specs.Table.{differences};
-
-// Whether x is a difference: the largest one that is at most x is x.
-fn contains(s: usize, x: usize) -> bool
-    ensures { λ r. ⌜ r ≡ member x (differences s) ⌝ }
-{
-    let p = table::rank(s, x);
-    if p == 0 {
-        return false;
-    }
-    table::difference(s, p - 1) == x
-}
+ghost use Rattle.plane.specs.Plane.{plane};
 
 // Whether i is one of the numbers 1 to n.
 fn inside(n: usize, i: usize) -> bool
     ensures { λ r. ⌜ r ≡ inside n i ⌝ }
 {
     1 <= i && i <= n
-}
-
-// Whether row i holds item j.
-pub fn on(s: usize, i: usize, j: usize) -> bool
-    ensures { λ r. ⌜ r ≡ plane s .on i j ⌝ }
-{
-    let m = table::items(s);
-    if !inside(m, i) {
-        return false;
-    }
-    if !inside(m, j) {
-        return false;
-    }
-    contains(s, (j + m - i) % m)
 }
 
 // How many rows hold item j.
@@ -71,8 +47,8 @@ fn around(m: usize, x: usize) -> usize
     if m < x { x - m } else { x }
 }
 
-// The row at place k, from 0, among those that hold item j, by how many of them are below j, which a walk over all of them finds once;
-// with another number for that, any row or 0. The differences below j lead to the rows below j, the others to those behind.
+// The row at place k, from 0, among those that hold item j, by how many of them are below j, which a walk over all of them finds once.
+// The differences below j lead to the rows below j, the others to those behind.
 pub fn row_by(s: usize, j: usize, below: usize, k: usize) -> usize
     ensures { λ r. ⌜ (below ≡ countUpTo (λ i. plane s .on i j) (j - 1) → r ≡ getD (rowsOf (plane s) j) k 0) ⌝ }
 {
@@ -86,13 +62,6 @@ pub fn row_by(s: usize, j: usize, below: usize, k: usize) -> usize
     let m = table::items(s);
     let a = around(n, below + n - k);
     around(m, j + m - table::difference(s, a - 1))
-}
-
-// The row at place k, from 0, among those that hold item j.
-pub fn row_at(s: usize, j: usize, k: usize) -> usize
-    ensures { λ r. ⌜ r ≡ getD (rowsOf (plane s) j) k 0 ⌝ }
-{
-    row_by(s, j, rows_below(s, j), k)
 }
 
 // How many items row i holds.
@@ -118,8 +87,8 @@ pub fn items_upto(s: usize, i: usize) -> usize
     }
 }
 
-// The item at place k, from 0, among those that row i holds, by how many of them are up to i, likewise. The differences above m − i go
-// round to the first items.
+// The item at place k, from 0, among those that row i holds, by how many of them are up to i, which a walk over all of them finds
+// once. The differences above m − i go round to the first items.
 pub fn item_by(s: usize, i: usize, upto: usize, k: usize) -> usize
     ensures { λ r. ⌜ (upto ≡ countUpTo (plane s .on i) i → r ≡ getD (itemsOf (plane s) i) k 0) ⌝ }
 {
@@ -135,25 +104,11 @@ pub fn item_by(s: usize, i: usize, upto: usize, k: usize) -> usize
     around(m, i + table::difference(s, a - 1))
 }
 
-// The item at place k, from 0, among those that row i holds.
-pub fn item_at(s: usize, i: usize, k: usize) -> usize
-    ensures { λ r. ⌜ r ≡ getD (itemsOf (plane s) i) k 0 ⌝ }
-{
-    item_by(s, i, items_upto(s, i), k)
-}
-
 // The tag of row i, 0 where it has none.
 pub fn tag_of_row(s: usize, i: usize) -> usize
     ensures { λ r. ⌜ r ≡ plane s .tagOfRow i ⌝ }
 {
     if i <= table::tags(s) { i } else { 0 }
-}
-
-// The row of tag k.
-pub fn row_of_tag(s: usize, k: usize) -> usize
-    ensures { λ r. ⌜ r ≡ plane s .rowOfTag k ⌝ }
-{
-    if k <= table::tags(s) { k } else { 0 }
 }
 
 // How many earlier rows row i is made of, 0 where it has a tag.

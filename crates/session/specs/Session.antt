@@ -1,6 +1,7 @@
 -- Document 01, sessions: "A session carries its row sums and all three keys with it; each step takes the session and gives back the next."
 -- Begin, Put and Close, each as what it refuses, the session that it gives and, of Close, what it leaves in the lent buffer, for all
 -- sessions and inputs. Assumes nothing.
+use mathlib.Core.Path.{_≡_}
 use mathlib.Core.Bool.{Bool, _&&_}
 use mathlib.Core.List.{List, [], _∷_, _++_}
 use Prim.Native.Nat.{ℕ, zero, suc, _+_, _*_}
@@ -22,7 +23,8 @@ unfoldable pub closed : Session
 closed =
     record { code = 0; count = 0; taken = 0; keys = record { item = zeros 16; tag = zeros 16; seal = zeros 16 }; sums = zeros 1312 }
 
--- whether a session is open: "A session whose size code or counts no run of these calls can give is treated as closed."
+-- whether a session is open: "A session whose size code or counts no run of these calls can give is treated as closed." That these are
+-- the size codes and counts that a run can give is a theorem (proofs/Reaching.antt: open-exactly; `Given` below).
 unfoldable pub isOpen : Session → Bool
 isOpen s = countFits (s .code) (s .count) && leb (s .taken) (s .count)
 
@@ -95,3 +97,18 @@ closeWrites s out =
 unfoldable pub after : List ℕ → ℕ → ℕ → (ℕ → List ℕ) → ℕ → Session
 after keys c n items zero = beginGives keys c n
 after keys c n items (suc k) = putGives (after keys c n items k) (items (suc k))
+
+-- the sessions that a run of these calls can give: Begin, Put and Close, in any order and whatever they are handed, refused or not
+pub data Reached : Session → Type 0 where
+  begun : (keys : List ℕ) (c n : ℕ) → Reached (beginGives keys c n)
+  putOne : (s : Session) (item : List ℕ) → Reached s → Reached (putGives s item)
+  closedBy : (s : Session) (out : List ℕ) → Reached s → Reached (closeGives s out)
+
+-- some run gives a session with this size code, this count and so many taken, and not by closing
+pub record Given (c n k : ℕ) : Type 0 where
+  pub session : Session
+  pub reached : Reached session
+  pub not-closed : session ≡ closed → ⊥
+  pub code : session .code ≡ c
+  pub count : session .count ≡ n
+  pub taken : session .taken ≡ k

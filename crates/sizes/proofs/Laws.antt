@@ -12,7 +12,6 @@ use Rattle.incidence.proofs.Booleans.{not-both}
 use Rattle.incidence.proofs.Counting.{inside-low, inside-high, inside-yes}
 use Rattle.plane.specs.Table.{itemCounts, planeItems, tagCounts, planeTags, limits, planeLimit}
 use Rattle.plane.specs.Plane.{plane}
-use Rattle.plane.proofs.Rules.{rules}
 use Rattle.plane.proofs.Planes as planes
 use Rattle.plane.proofs.Lookup.{items-most, tags-most, limit-most, no-items, no-tags, no-limit}
 use Rattle.sizes.specs.Sizes.{known, familyOf}
@@ -33,14 +32,6 @@ module _ (c : ℕ) (h : known c ≡ true) where
   -- a size code is a byte
   pub code-byte : c < 256
   code-byte = omega (arith, code-high c h)
-
-  pub some-items : 1 ≤ familyOf c .items
-  unfolding familyOf plane
-  some-items = rules c (code-low c h) (code-high c h) .some
-
-  pub tags-fit : familyOf c .tags ≤ familyOf c .rows
-  unfolding familyOf plane
-  tags-fit = rules c (code-low c h) (code-high c h) .fits
 
 -- at most 273, and 82 tags, whatever the code
 pub items-few : (c : ℕ) → familyOf c .items ≤ 273

@@ -1,5 +1,6 @@
 // The size codes: the one place that names them. What a code's family has, as numbers and walks; the crates above call nothing else of
-// it. No call asks anything of its caller: for a code that is none, or a number out of range, each answers 0 or false.
+// it. No call has a premise. For a code that is none, or a number out of range, `known` answers false and the others 0; `row_by` and `item_by`
+// where the count handed to them is what `rows_below` and `items_upto` give. For another count nothing is said of what they answer.
 ghost use mathlib.Core.Path.{_≡_};
 ghost use Prim.Native.Nat.{_-_};
 ghost use lib.ListN.{length, getD};
@@ -42,13 +43,6 @@ pub fn limit(code: u64) -> usize
     plane::table::limit(code as usize)
 }
 
-// Whether a row holds an item.
-pub fn on(code: u64, row: usize, item: usize) -> bool
-    ensures { λ r. ⌜ r ≡ familyOf code .on row item ⌝ }
-{
-    plane::walk::on(code as usize, row, item)
-}
-
 // How many rows hold an item.
 pub fn row_count(code: u64, item: usize) -> usize
     ensures { λ r. ⌜ r ≡ length (rowsOf (familyOf code) item) ⌝ }
@@ -68,13 +62,6 @@ pub fn row_by(code: u64, item: usize, below: usize, k: usize) -> usize
     ensures { λ r. ⌜ (below ≡ countUpTo (λ i. familyOf code .on i item) (item - 1) → r ≡ getD (rowsOf (familyOf code) item) k 0) ⌝ }
 {
     plane::walk::row_by(code as usize, item, below, k)
-}
-
-// The row at place k, from 0, of those that hold an item, rising.
-pub fn row_at(code: u64, item: usize, k: usize) -> usize
-    ensures { λ r. ⌜ r ≡ getD (rowsOf (familyOf code) item) k 0 ⌝ }
-{
-    plane::walk::row_at(code as usize, item, k)
 }
 
 // How many items a row holds.
@@ -97,20 +84,6 @@ pub fn item_by(code: u64, row: usize, upto: usize, k: usize) -> usize
     ensures { λ r. ⌜ (upto ≡ countUpTo (familyOf code .on row) row → r ≡ getD (itemsOf (familyOf code) row) k 0) ⌝ }
 {
     plane::walk::item_by(code as usize, row, upto, k)
-}
-
-// The item at place k, from 0, of those that a row holds, rising.
-pub fn item_at(code: u64, row: usize, k: usize) -> usize
-    ensures { λ r. ⌜ r ≡ getD (itemsOf (familyOf code) row) k 0 ⌝ }
-{
-    plane::walk::item_at(code as usize, row, k)
-}
-
-// The row of a tag.
-pub fn row_of_tag(code: u64, tag: usize) -> usize
-    ensures { λ r. ⌜ r ≡ familyOf code .rowOfTag tag ⌝ }
-{
-    plane::walk::row_of_tag(code as usize, tag)
 }
 
 // The tag of a row, 0 where it has none.

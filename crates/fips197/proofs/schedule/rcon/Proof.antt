@@ -1,4 +1,5 @@
--- By the rule of the table (TableRules).
+-- The table is the one that its rule gives, entry by entry (TableRules).
+use Rattle.fips197.specs.Field.{xtimes, productBy, _•_, powerBy, power}
 use Rattle.fips197.proofs.TableRules.{rconTable, rcon-table}
 use borrow.Author.Needs.{needs}
 use Rattle.fips197.proofs.schedule.rcon.Statement.{statement}
@@ -8,7 +9,7 @@ array-read-result : tie.Need-array-read-result
 array-read-result c = search needs
 
 returns : tie.Need-returns
-unfolding rconTable
+unfolding rconTable power powerBy _•_ productBy xtimes
 returns c = rcon-table (c .args .j) (c .pre .0) (c .pre .1)
 
 pub rcon-spec : {M : Type 1} → statement M

@@ -3,6 +3,7 @@ use mathlib.Core.Path.{refl, ap, _∙_}
 use native.Mathlib.Omega.{arith}
 use lib.ListN.{getD}
 use Prim.Native.Nat.{ℕ, _+_}
+use Rattle.plane.specs.Table.{differenceLists}
 use Rattle.plane.proofs.Lookup.{differenceTable, difference-bound, difference-at}
 use borrow.Author.Needs.{needs}
 use Rattle.plane.proofs.table.difference.Statement.{statement}
@@ -20,7 +21,7 @@ entry-requires c κs =
     (omega (arith, difference-bound (a .args .s) (a .args .k) (a .pre), c .column .ensures), refl)
 
 returns : tie.Need-returns
-unfolding differenceTable
+unfolding differenceTable differenceLists
 returns c =
     let a = c .before .before .before in
     c .entry .ensures

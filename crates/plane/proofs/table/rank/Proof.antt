@@ -3,7 +3,7 @@ use mathlib.Core.Path.{_≡_, refl, ap, _∙_}
 use Prim.Native.Nat.{ℕ, _+_, _-_, _/_, _≤_, _<_}
 use native.Mathlib.Omega.{arith}
 use lib.ListN.{length, getD}
-use Rattle.plane.specs.Table.{differences}
+use Rattle.plane.specs.Table.{differenceLists, differences}
 use Rattle.plane.proofs.Lookup.{differenceTable, differenceStarts, difference-bound, difference-at, difference-count, differences-rise}
 use Rattle.plane.proofs.Ranks.{rank, rank-above, rank-below, rank-length}
 use borrow.Author.Needs.{needs}
@@ -69,7 +69,7 @@ loop-less : tie.Need-loop-less Inv-loop μ-loop
 loop-less c = omega (arith, c .before .before .before .loop-test .taken)
 
 loop-again : tie.Need-loop-again Inv-loop μ-loop
-unfolding differenceTable
+unfolding differenceTable differenceLists
 loop-again c =
     let l = c .before .before .before .before in
     let s = l .before .before .before .args .s in
@@ -83,7 +83,7 @@ loop-less-2 : tie.Need-loop-less-2 Inv-loop μ-loop
 loop-less-2 c = omega (arith, c .before .before .before .loop-test .taken)
 
 loop-again-2 : tie.Need-loop-again-2 Inv-loop μ-loop
-unfolding differenceTable
+unfolding differenceTable differenceLists
 loop-again-2 c =
     let l = c .before .before .before .before in
     let s = l .before .before .before .args .s in

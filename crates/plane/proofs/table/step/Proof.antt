@@ -3,6 +3,7 @@ use mathlib.Core.Path.{ap, _∙_}
 use native.Mathlib.Omega.{arith}
 use lib.ListN.{getD}
 use Prim.Native.Nat.{ℕ, _+_}
+use Rattle.plane.specs.Table.{patternLists}
 use Rattle.plane.proofs.Lookup.{patternTable, step-bound, step-at}
 use borrow.Author.Needs.{needs}
 use Rattle.plane.proofs.table.step.Statement.{statement}
@@ -21,7 +22,7 @@ from-u8-requires : tie.Need-from-u8-requires
 from-u8-requires c κs = search needs
 
 returns : tie.Need-returns
-unfolding patternTable
+unfolding patternTable patternLists
 returns c =
     let a = c .before .before in
     c .from-u8 .ensures
