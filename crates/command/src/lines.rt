@@ -3,7 +3,6 @@
 ghost use mathlib.Core.Path.{_≡_};
 ghost use Prim.Native.Nat.{_+_, _≤_};
 ghost use lib.ListN.{length};
-ghost use Rattle.files.specs.TagFile.{fileSize};
 ghost use Rattle.printing.specs.Text.{over};
 ghost use Rattle.command.specs.Said.{countLine, itemLine, temporaryName};
 
@@ -40,12 +39,4 @@ pub fn put_temporary(out: &mut [u8], name: &[u8], process: u64) -> usize
     let next = printing::put(out, 0, name);
     let next = printing::put_labelled(out, next, b".", process);
     printing::put(out, next, b".new")
-}
-
-// The length of a tag file.
-pub fn file_size(code: u64) -> usize
-    ensures size { λ r. ⌜ r ≡ fileSize code ⌝ }
-    ensures short { λ r. ⌜ r ≤ 1336 ⌝ }
-{
-    24 + 16 * sizes::tags(code)
 }

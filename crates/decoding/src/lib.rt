@@ -13,6 +13,9 @@ ghost use Rattle.incidence.specs.Report.{cleared, named, numberNamed, disagreei
 ghost use Rattle.sizes.specs.Sizes.{familyOf};
 ghost use Rattle.decoding.specs.Decoding.{agreesIn, marksOf, Marked, Cleared, isMarked, holdsMarked, unexplainedIn};
 
+// The most marks that a report writes: those of the largest size.
+pub const MARKS_MOST: usize = 273;
+
 // What a report says: its answer, how many items are named, and how many rows disagree.
 pub struct Decoded {
     pub answer: Answer,

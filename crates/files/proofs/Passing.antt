@@ -1,7 +1,7 @@
 -- Refusals: what passes is none, and the first of a list.
 use mathlib.Core.Path.{_≡_, refl, sym, ap, ap₂, _∙_}
 use mathlib.Core.Bool.{Bool, true, false, _&&_}
-use mathlib.Core.List.{List, [], _∷_, _++_}
+use mathlib.Core.List.{List, [], _∷_, _++_, append-nil}
 use Prim.Native.Nat.{ℕ, _<_}
 use native.Mathlib.Omega.{arith}
 use lib.Dec.{eqb}
@@ -109,6 +109,11 @@ run2 a b rest = sym (flat (a ∷ b ∷ []) rest)
 
 pub run3 : (a b d : Refusal) (rest : List Refusal) → first (a ∷ b ∷ d ∷ rest) ≡ first (first (a ∷ b ∷ d ∷ []) ∷ rest)
 run3 a b d rest = sym (flat (a ∷ b ∷ d ∷ []) rest)
+
+-- a run at the end
+pub run-end : (a : Refusal) (l : List Refusal) → first (a ∷ l) ≡ first (a ∷ first l ∷ [])
+unfolding first
+run-end a l = ap (λ (r : Refusal). if passes a then r else a) (sym (flat l [] ∙ ap first (append-nil l)))
 
 -- two lists that are equal entry by entry: l is what the code has, m what the contract names
 pub data Same : List Refusal → List Refusal → Type 0 where

@@ -11,9 +11,12 @@ ghost use Rattle.files.specs.Message.{number16, itemCount, behind, itemF
 ghost use Rattle.files.specs.Arguments.{refuse4};
 
 // Where the count stands, behind letters and version, and where the first item's length does.
-const COUNT_AT: usize = 5;
+pub const COUNT_AT: usize = 5;
 
-const ITEMS_AT: usize = 7;
+pub const ITEMS_AT: usize = 7;
+
+// The file without items: letters, version and count.
+pub const EMPTY: [u8; 7] = *b"TBS\x00\x01\x00\x00";
 
 // The most bytes that a file and an item may have.
 pub const MOST: usize = 65536;

@@ -14,7 +14,7 @@ fn append_file(file: &mut [u8], n: usize, i: usize) -> usize
     requires { ⌜ 3 ≤ i ⌝ }
     ensures { λ r. ⌜ r ≤ length (now (file .exit)) ⌝ }
 {
-    let mut card = [0u8; 1025];
+    let mut card = [0u8; input::CARD];
     let got = input::read(i, &mut card);
     if !got.ok {
         return 0;
@@ -58,7 +58,7 @@ pub fn pack() {
         say::error(b"a missing word", b"");
         return;
     }
-    let mut file = [0u8; 65536];
+    let mut file = [0u8; message::MOST];
     packing::begin(&mut file);
     let n = append_files(&mut file, count);
     if n == 0 {
@@ -86,7 +86,7 @@ pub fn fetch() {
     if !number.ok {
         return;
     }
-    let mut message = [0u8; 65537];
+    let mut message = [0u8; input::MESSAGE];
     let m = input::read(2, &mut message);
     if m.ok {
         let n = m.n;
@@ -134,11 +134,11 @@ pub fn list() {
     if !words::exactly(3) {
         return;
     }
-    let mut message = [0u8; 65537];
+    let mut message = [0u8; input::MESSAGE];
     let m = input::read(2, &mut message);
     if m.ok {
         let n = m.n;
-        let count = message::number16(&message, 5);
+        let count = message::item_count(&message);
         list_message(&message[0..n], count);
     }
 }

@@ -1,7 +1,18 @@
 // Files read whole.
 use crate::say;
+use files::message;
+use files::tagfile;
 ghost use Prim.Native.Nat.{_≤_};
 ghost use lib.ListN.{length};
+
+// Buffers for the files: one byte more than each may have, so that the call itself refuses what is too long.
+pub const KEYS: usize = 49;
+
+pub const MESSAGE: usize = message::MOST + 1;
+
+pub const TAG_FILE: usize = tagfile::MOST + 1;
+
+pub const CARD: usize = message::ITEM_MOST + 1;
 
 // Whether a file was read, and how many bytes at the start of the buffer are its.
 pub struct Got {

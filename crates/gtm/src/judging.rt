@@ -2,8 +2,8 @@
 use crate::input;
 use crate::say;
 use crate::words;
-use files::message;
 use files::tagfile;
+use files::tagfile::Head;
 
 fn say_verify(keys: &[u8], message: &[u8], tags: &[u8]) {
     let v = scheme::verify(keys, message, tags);
@@ -18,8 +18,8 @@ fn say_verify(keys: &[u8], message: &[u8], tags: &[u8]) {
 }
 
 // Reports, for the size code and the count that the tag file says. The marks behind the last card stay 0, so they name none.
-fn say_report(keys: &[u8], message: &[u8], tags: &[u8], code: u64, count: usize) {
-    let mut marks = [0u8; 273];
+fn say_report(keys: &[u8], message: &[u8], tags: &[u8], head: Head) {
+    let mut marks = [0u8; decoding::MARKS_MOST];
     let found = scheme::report(keys, message, tags, &mut marks);
     let refused = found.refused;
     if refused.number != 0 {
@@ -30,29 +30,28 @@ fn say_report(keys: &[u8], message: &[u8], tags: &[u8], code: u64, count: usize)
     let mut text = [0u8; 7232];
     let at = printing::put_report(
         &mut text,
-        code,
-        count,
+        head.code,
+        head.count,
         said,
         found.named,
         found.rows,
         &marks,
-        273,
+        decoding::MARKS_MOST,
     );
     say::result(&text[0..at]);
 }
 
 // Reads the tag file, and verifies or reports.
 fn judge_message(keys: &[u8], message: &[u8], is_report: bool) {
-    let mut tags = [0u8; 1337];
+    let mut tags = [0u8; input::TAG_FILE];
     let got = input::read(4, &mut tags);
     if !got.ok {
         return;
     }
     let n = got.n;
     if is_report {
-        let code = tagfile::code_of(&tags);
-        let count = message::number16(&tags, 6);
-        say_report(keys, message, &tags[0..n], code, count);
+        let head = tagfile::head_of(&tags);
+        say_report(keys, message, &tags[0..n], head);
     } else {
         say_verify(keys, message, &tags[0..n]);
     }
@@ -60,7 +59,7 @@ fn judge_message(keys: &[u8], message: &[u8], is_report: bool) {
 
 // Reads the message first.
 fn judge_with(keys: &[u8], is_report: bool) {
-    let mut message = [0u8; 65537];
+    let mut message = [0u8; input::MESSAGE];
     let got = input::read(3, &mut message);
     if got.ok {
         let n = got.n;
@@ -70,7 +69,7 @@ fn judge_with(keys: &[u8], is_report: bool) {
 
 // Reads the keys before that.
 fn judge(is_report: bool) {
-    let mut keys = [0u8; 49];
+    let mut keys = [0u8; input::KEYS];
     let got = input::read(2, &mut keys);
     if got.ok {
         let n = got.n;

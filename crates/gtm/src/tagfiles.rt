@@ -3,9 +3,7 @@ use crate::input;
 use crate::output;
 use crate::say;
 use crate::words;
-use command::lines;
 use files::Refusal;
-use files::message;
 use files::tagfile;
 ghost use Prim.Native.Nat.{_≤_};
 ghost use lib.ListN.{length};
@@ -18,30 +16,30 @@ fn finish(refused: Refusal, i: usize, out: &[u8])
         say::refused(refused);
         return;
     }
-    let code = tagfile::code_of(out);
-    let n = lines::file_size(code);
+    let head = tagfile::head_of(out);
+    let n = tagfile::file_size(head.code);
     if !output::write(i, &out[0..n]) {
         return;
     }
     let mut line = [0u8; 80];
-    let e = printing::put_limits(&mut line, 0, code, message::number16(out, 6));
+    let e = printing::put_limits(&mut line, 0, head.code, head.count);
     say::result(&line[0..e]);
 }
 
 fn tag_as(size: u64) {
-    let mut keys = [0u8; 49];
+    let mut keys = [0u8; input::KEYS];
     let k = input::read(2, &mut keys);
     if !k.ok {
         return;
     }
-    let mut message = [0u8; 65537];
+    let mut message = [0u8; input::MESSAGE];
     let m = input::read(4, &mut message);
     if !m.ok {
         return;
     }
     let a = k.n;
     let b = m.n;
-    let mut out = [0u8; 1336];
+    let mut out = [0u8; tagfile::MOST];
     let r = scheme::tag(&keys[0..a], size, &message[0..b], &mut out);
     finish(r, 5, &out);
 }
@@ -58,30 +56,30 @@ pub fn tag() {
 
 // Reads the two card files and replaces card j.
 fn replace_cards(keys: &[u8], tags: &[u8], j: u64) {
-    let mut old = [0u8; 1025];
+    let mut old = [0u8; input::CARD];
     let o = input::read(5, &mut old);
     if !o.ok {
         return;
     }
-    let mut new = [0u8; 1025];
+    let mut new = [0u8; input::CARD];
     let n = input::read(6, &mut new);
     if !n.ok {
         return;
     }
     let a = o.n;
     let b = n.n;
-    let mut out = [0u8; 1336];
+    let mut out = [0u8; tagfile::MOST];
     let r = scheme::replace(keys, tags, j, &old[0..a], &new[0..b], &mut out);
     finish(r, 7, &out);
 }
 
 fn replace_as(j: u64) {
-    let mut keys = [0u8; 49];
+    let mut keys = [0u8; input::KEYS];
     let k = input::read(2, &mut keys);
     if !k.ok {
         return;
     }
-    let mut tags = [0u8; 1337];
+    let mut tags = [0u8; input::TAG_FILE];
     let t = input::read(3, &mut tags);
     if !t.ok {
         return;

@@ -65,7 +65,7 @@ module _ (f : List ℕ) (n : ℕ) (item : List ℕ) (low : 7 ≤ n) (room : n + 
   s-length = length-take-le n f (omega arith)
 
   -- the count that the code reads
-  pub count-read : number16 f 5 ≡ itemCount (take n f)
+  pub count-read : itemCount f ≡ itemCount (take n f)
   unfolding itemCount s
   count-read =
       ap (λ (l : List ℕ). number16 l 5) (sym (take-append-drop n f)) ∙ number16-front (take n f) (drop n f) 5 (omega (arith, s-length))

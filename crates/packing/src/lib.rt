@@ -3,6 +3,9 @@ use cipher::block;
 use files::Refusal;
 use files::arguments;
 use files::message;
+use files::refusals::first2;
+use files::refusals::first3;
+use files::refusals::unless;
 ghost use mathlib.Core.Path.{_≡_};
 ghost use mathlib.Core.List.{[], _∷_, _++_};
 ghost use Prim.Native.Nat.{_+_, _≤_, _<_};
@@ -26,11 +29,12 @@ pub fn begin(out: &mut [u8]) -> Refusal
     ensures refused { λ r. ⌜ r ≡ beginFileRefusal (length (now (out .entry))) ⌝ }
     ensures written { λ _. ⌜ now (out .exit) ≡ beginFileWrites (now (out .entry)) ⌝ }
 {
-    let refused = arguments::check_room(7, out.len());
+    let refused = arguments::check_room(message::ITEMS_AT, out.len());
     if refused.number != 0 {
         return refused;
     }
-    put(out, 0, b"TBS\x00\x01\x00\x00");
+    let empty = message::EMPTY;
+    put(out, 0, &empty);
     refused
 }
 
@@ -47,36 +51,44 @@ fn check_room(room: usize, n: usize, item: &[u8]) -> Refusal
     arguments::check_room(2 + item.len(), room - n)
 }
 
+// Refusal 3, or none, of a file that has so many bytes.
+fn check_size(size: usize) -> Refusal
+    ensures { λ r. ⌜ r ≡ unless (leb size 65536) 3 0 ⌝ }
+{
+    unless(size <= message::MOST, 3, 0)
+}
+
+// Refusal 3, or none, of a file whose count is to be raised.
+fn check_more(s: &[u8]) -> Refusal
+    requires { ⌜ refuse3 (now s) .number ≡ 0 ⌝ }
+    ensures { λ r. ⌜ r ≡ unless (ltb (itemCount (now (s .entry))) 65535) 3 0 ⌝ }
+{
+    unless(message::item_count(s) < 65535, 3, 0)
+}
+
 // Refusal 3, or none, of a file that has so many bytes with one item more.
 fn check_file(s: &[u8], size: usize) -> Refusal
     ensures { λ r. ⌜ r ≡ first (refuse3 (now (s .entry)) ∷ unless (leb size 65536) 3 0 ∷ unless (ltb (itemCount (now (s .entry))) 65535) 3 0 ∷ []) ⌝ }
 {
-    let head = message::check_header(s);
-    if head.number != 0 {
-        return head;
+    let r = message::check_header(s);
+    if r.number != 0 {
+        return r;
     }
-    if 65536 < size {
-        return Refusal {
-            number: 3,
-            place: 0,
-        };
-    }
-    arguments::unless(message::number16(s, 5) < 65535, 3, 0)
+    first3(r, check_size(size), check_more(s))
 }
 
 // Append's refusal: 9, 7 or 3, or none.
 fn append_refusal(file: &[u8], n: usize, item: &[u8]) -> Refusal
     ensures { λ r. ⌜ r ≡ appendRefusal (now (file .entry)) n (now (item .entry)) ⌝ }
 {
-    let long = arguments::check_item(item, 0);
-    if long.number != 0 {
-        return long;
+    let r = first2(
+        arguments::check_item(item, 0),
+        check_room(file.len(), n, item),
+    );
+    if r.number != 0 {
+        return r;
     }
-    let short = check_room(file.len(), n, item);
-    if short.number != 0 {
-        return short;
-    }
-    check_file(&file[0..n], n + 2 + item.len())
+    first2(r, check_file(&file[0..n], n + 2 + item.len()))
 }
 
 // Writes the count raised by one, and the item with its length behind the first n bytes, for an append that passes.
@@ -84,9 +96,9 @@ fn put_item(file: &mut [u8], n: usize, item: &[u8])
     requires { ⌜ (7 ≤ n) × (n + 2 + length (now item) ≤ length (now file)) × (length (now item) ≤ 1024) × (itemCount (take n (now file)) < 65535) ⌝ }
     ensures { λ _. ⌜ now (file .exit) ≡ appended (take n (now (file .entry))) (now (item .entry)) ++ drop (n + 2 + length (now (item .entry))) (now (file .entry)) ⌝ }
 {
-    let count = block::to_be16((message::number16(file, 5) + 1) as u16);
+    let count = block::to_be16((message::item_count(file) + 1) as u16);
     let long = block::to_be16(item.len() as u16);
-    put(file, 5, &count);
+    put(file, message::COUNT_AT, &count);
     put(file, n, &long);
     put(file, n + 2, item);
 }

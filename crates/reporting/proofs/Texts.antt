@@ -58,15 +58,15 @@ module _ (keys : List ℕ) (c : ℕ) (s second : List ℕ) (r : Refusal) (e : r 
       (λ i. reportText keys c (en i) second (ef i)) ∙ given r (tagRefusal keys c s 1336) e (reportText keys c (itemCount s) second file) (refusedLine (tagRefusal keys c s 1336)) h
 
   -- the front of the buffer is the tag file
-  pub tag-file : r .number ≡ 0 → (t end : ℕ) (out : List ℕ) → t ≡ familyOf c .tags → end ≡ 24 + 16 * t → out ≡ tagWrites keys c s (zeros 1336)
+  pub tag-file : r .number ≡ 0 → (end : ℕ) (out : List ℕ) → end ≡ fileSize c → out ≡ tagWrites keys c s (zeros 1336)
       → take (end - 0) out ≡ file
-  unfolding tagWrites tagFile fileSize keysIn
-  tag-file h t end out et ee eo =
+  unfolding tagWrites tagFile keysIn
+  tag-file h end out ee eo =
       let T = taggable keys c s 1336 r e h in
       let K = keysIn keys in
       let size : length file ≡ fileSize c
-      = file-length K c (itemCount s) (tagSum K c (item s) (itemCount s)) (slot-length keys 1 (omega (arith, T .keys48))) (slot-length keys 2 (omega (arith, T .keys48))) in
-      let long : length file ≡ end - 0 = size ∙ omega (arith, et, ee) in
+      = file-length K (headFor c (itemCount s)) (tagSum K c (item s) (itemCount s)) (slot-length keys 1 (omega (arith, T .keys48))) (slot-length keys 2 (omega (arith, T .keys48))) in
+      let long : length file ≡ end - 0 = size ∙ omega (arith, ee) in
       let whole : out ≡ file ++ drop (fileSize c) (zeros 1336) = eo ∙ sym (given r (tagRefusal keys c s 1336) e (file ++ drop (fileSize c) (zeros 1336)) (zeros 1336) h) in
       ap (take (end - 0)) whole ∙ take-at file (drop (fileSize c) (zeros 1336)) (end - 0) long
 

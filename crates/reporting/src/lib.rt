@@ -1,5 +1,6 @@
 // The report program of document 01's bench cards, without its reading and writing: from the bytes read to the bytes printed.
 use files::message;
+use files::tagfile;
 ghost use mathlib.Core.Path.{_≡_};
 ghost use mathlib.Core.List.{_++_};
 ghost use Prim.Native.Nat.{_≤_};
@@ -26,14 +27,14 @@ fn put_report(keys: &[u8], code: u64, n: usize, s: &[u8], file: &[u8], out: &mut
     ensures written { λ _. ⌜ now (out .exit) ≡ over 0 (reportText (now (keys .entry)) code n (now (s .entry)) (now (file .entry))) (now (out .entry)) ⌝ }
     ensures behind { λ r. ⌜ r ≡ length (reportText (now (keys .entry)) code n (now (s .entry)) (now (file .entry))) ⌝ }
 {
-    let mut marks = [0u8; 273];
+    let mut marks = [0u8; decoding::MARKS_MOST];
     let found = scheme::report(keys, s, file, &mut marks);
     let refused = found.refused;
     if refused.number != 0 {
         return printing::put_refused(out, 0, refused);
     }
     let said = found.answer;
-    let k = message::number16(s, 5);
+    let k = message::item_count(s);
     printing::put_report(out, code, n, said, found.named, found.rows, &marks, k)
 }
 
@@ -43,13 +44,13 @@ fn put_both(keys: &[u8], code: u64, first: &[u8], second: &[u8], out: &mut [u8])
     ensures written { λ _. ⌜ now (out .exit) ≡ over 0 (tagText (now (keys .entry)) code (now (first .entry)) (now (second .entry))) (now (out .entry)) ⌝ }
     ensures behind { λ r. ⌜ r ≡ length (tagText (now (keys .entry)) code (now (first .entry)) (now (second .entry))) ⌝ }
 {
-    let mut file = [0u8; 1336];
+    let mut file = [0u8; tagfile::MOST];
     let refused = scheme::tag(keys, code, first, &mut file);
     if refused.number != 0 {
         return printing::put_refused(out, 0, refused);
     }
-    let n = message::number16(first, 5);
-    let end = 24 + 16 * sizes::tags(code);
+    let n = message::item_count(first);
+    let end = tagfile::file_size(code);
     put_report(keys, code, n, second, &file[0..end], out)
 }
 

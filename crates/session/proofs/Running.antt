@@ -18,7 +18,7 @@ use Rattle.cipher.proofs.Laws.{cmac-length}
 use Rattle.sizes.specs.Sizes.{known, familyOf}
 use Rattle.sizes.proofs.Laws.{tags-few}
 use Rattle.files.specs.Refusals.{refusal, none, first}
-use Rattle.files.specs.TagFile.{fileSize, countFits}
+use Rattle.files.specs.TagFile.{headFor, fileSize, countFits}
 use Rattle.files.specs.Arguments.{refuse7, refuse9}
 use Rattle.files.proofs.Passing.{unless-true, unless-false, and-left, and-true, given}
 use Rattle.keyed.specs.Keyed.{itemHash}
@@ -142,7 +142,7 @@ module _ (keys : List ℕ) (c n : ℕ) (items : ℕ → List ℕ) where
   -- the sheet that Tag's rule gives for these cards, even where they are too long together for one shelf file".
   pub closes : Runs n → (out : List ℕ) → fileSize c ≤ length out
       → (closeRefusal (after keys c n items n) out ≡ none)
-      × (closeWrites (after keys c n items n) out ≡ tagFile (keysIn keys) c n items ++ drop (fileSize c) out)
+      × (closeWrites (after keys c n items n) out ≡ tagFile (keysIn keys) (headFor c n) items ++ drop (fileSize c) out)
       × (closeGives (after keys c n items n) out ≡ closed)
   unfolding closeWrites closeGives tagFile
   closes R out room =
@@ -150,9 +150,9 @@ module _ (keys : List ℕ) (c n : ℕ) (items : ℕ → List ℕ) where
       let H = taken-all n R in
       let q = passes-close s out H room in (
         q,
-        sym (given none (closeRefusal s out) (sym q) (fileOf (s .keys) (s .code) (s .count) (sumIn (s .sums)) ++ drop (fileSize (s .code)) out) out refl)
-            ∙ (λ i. fileOf (H .same-keys i) (H .code i) (H .count i) (sumIn (s .sums)) ++ drop (fileSize (H .code i)) out)
-            ∙ ap (λ (l : List ℕ). l ++ drop (fileSize c) out) (file-same (keysIn keys) c n (sumIn (s .sums)) (tagSum (keysIn keys) c items n) (H .sums .sums)),
+        sym (given none (closeRefusal s out) (sym q) (fileOf (s .keys) (headFor (s .code) (s .count)) (sumIn (s .sums)) ++ drop (fileSize (s .code)) out) out refl)
+            ∙ (λ i. fileOf (H .same-keys i) (headFor (H .code i) (H .count i)) (sumIn (s .sums)) ++ drop (fileSize (H .code i)) out)
+            ∙ ap (λ (l : List ℕ). l ++ drop (fileSize c) out) (file-same (keysIn keys) (headFor c n) (sumIn (s .sums)) (tagSum (keysIn keys) c items n) (H .sums .sums)),
         sym (given none (closeRefusal s out) (sym q) closed s refl),
       )
 

@@ -11,7 +11,7 @@ use Rattle.cipher.specs.Block.{if_then_else_, _⊕_, zeros, slot, listOf}
 use Rattle.sizes.specs.Sizes.{familyOf}
 use Rattle.files.specs.declared.Refusal.{Refusal}
 use Rattle.files.specs.Refusals.{unless, passes, first}
-use Rattle.files.specs.TagFile.{fileSize, countFits}
+use Rattle.files.specs.TagFile.{headFor, fileSize, countFits}
 use Rattle.files.specs.Arguments.{refuse1, refuse2, refuse4, refuse7, refuse9}
 use Rattle.keyed.specs.Keyed.{itemHash}
 use Rattle.sums.specs.Adding.{sumIn}
@@ -89,7 +89,7 @@ closeGives s out = if passes (closeRefusal s out) then closed else s
 -- "Close writes and seals the tags of the sums carried."
 unfoldable pub closeWrites : Session → List ℕ → List ℕ
 closeWrites s out =
-    if passes (closeRefusal s out) then fileOf (s .keys) (s .code) (s .count) (sumIn (s .sums)) ++ drop (fileSize (s .code)) out else out
+    if passes (closeRefusal s out) then fileOf (s .keys) (headFor (s .code) (s .count)) (sumIn (s .sums)) ++ drop (fileSize (s .code)) out else out
 
 -- ---- a run
 

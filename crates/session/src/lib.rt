@@ -3,7 +3,10 @@
 use cipher::cmac;
 use files::Refusal;
 use files::arguments;
+use files::refusals::first3;
+use files::refusals::unless;
 use files::tagfile;
+use files::tagfile::Head;
 use tagging::Keys;
 ghost use mathlib.Core.Path.{_≡_};
 ghost use mathlib.Core.Bool.{true};
@@ -21,32 +24,13 @@ pub struct Session {
     pub count: u64,
     pub taken: u64,
     pub keys: Keys,
-    pub sums: [u8; 1312],
+    pub sums: [u8; sums::TAGS_MOST],
 }
 
 // What a step gives: its refusal, with number 0 where there is none, and the next session.
 pub struct Step {
     pub refused: Refusal,
     pub session: Session,
-}
-
-// The first that applies of three, or none.
-fn first_of(a: Refusal, b: Refusal, c: Refusal) -> Refusal
-    ensures { λ r. ⌜ r ≡ first (a ∷ b ∷ c ∷ []) ⌝ }
-{
-    if a.number != 0 {
-        return a;
-    }
-    if b.number != 0 {
-        return b;
-    }
-    if c.number != 0 {
-        return c;
-    }
-    Refusal {
-        number: 0,
-        place: 0,
-    }
 }
 
 // The closed session.
@@ -62,7 +46,7 @@ fn closed() -> Session
             tag: [0u8; 16],
             seal: [0u8; 16],
         },
-        sums: [0u8; 1312],
+        sums: [0u8; sums::TAGS_MOST],
     }
 }
 
@@ -73,7 +57,7 @@ fn begin_refusal(keys: &[u8], code: u64, n: u64) -> Refusal
     let wrong_keys = arguments::check_keys(keys);
     let wrong_code = arguments::check_code(code);
     let wrong_count = arguments::check_count(code, n);
-    first_of(wrong_keys, wrong_code, wrong_count)
+    first3(wrong_keys, wrong_code, wrong_count)
 }
 
 // Begins a session for n items of a size code. Refuses 1, 2, 4, the first that applies, and gives the closed session then.
@@ -88,7 +72,7 @@ pub fn begin(keys: &[u8], code: u64, n: u64) -> Step
             count: n,
             taken: 0,
             keys: tagging::keys_in(keys),
-            sums: [0u8; 1312],
+            sums: [0u8; sums::TAGS_MOST],
         };
         return Step { refused, session };
     }
@@ -110,21 +94,21 @@ impl Session {
     fn check_open(self) -> Refusal
         ensures { λ r. ⌜ r ≡ refuse24 self ⌝ }
     {
-        arguments::unless(self.is_open(), 24, 0)
+        unless(self.is_open(), 24, 0)
     }
 
     // Refusal 22, or none.
     fn check_more(self) -> Refusal
         ensures { λ r. ⌜ r ≡ refuse22 self ⌝ }
     {
-        arguments::unless(self.taken < self.count, 22, 0)
+        unless(self.taken < self.count, 22, 0)
     }
 
     // Refusal 23, or none.
     fn check_all(self) -> Refusal
         ensures { λ r. ⌜ r ≡ refuse23 self ⌝ }
     {
-        arguments::unless(self.taken == self.count, 23, self.taken as usize)
+        unless(self.taken == self.count, 23, self.taken as usize)
     }
 
     // Put's refusal: 24, 22 or 9, or none.
@@ -134,7 +118,7 @@ impl Session {
         let shut = self.check_open();
         let full = self.check_more();
         let long = arguments::check_item(item, 0);
-        first_of(shut, full, long)
+        first3(shut, full, long)
     }
 
     // The session with one item more, for a put that passes.
@@ -180,11 +164,11 @@ impl Session {
     fn close_refusal(self, room: usize) -> Refusal
         ensures { λ r. ⌜ r ≡ first (refuse24 self ∷ refuse23 self ∷ refuse7 (fileSize (self .code)) room ∷ []) ⌝ }
     {
-        let size = 24 + 16 * sizes::tags(self.code);
+        let size = tagfile::file_size(self.code);
         let shut = self.check_open();
         let early = self.check_all();
         let short = arguments::check_room(size, room);
-        first_of(shut, early, short)
+        first3(shut, early, short)
     }
 
     // Closes the session: writes the tag file of its items to the front of out; the bytes behind stay. Refuses 24, 23, 7, the first that
@@ -203,7 +187,11 @@ impl Session {
         }
         let keys = self.keys;
         let sums = self.sums;
-        tagging::write_file(self.code, self.count as usize, keys, &sums, out);
+        let head = Head {
+            code: self.code,
+            count: self.count as usize,
+        };
+        tagging::write_file(head, keys, &sums, out);
         let session = closed();
         Step { refused, session }
     }

@@ -8,8 +8,8 @@ use borrow.Author.Needs.{needs}
 use Rattle.packing.proofs.put_item.Statement.{statement}
 use Rattle.packing.proofs.put_item.Tie as tie
 
-number16-requires : tie.Need-number16-requires
-number16-requires c κs = search needs
+item-count-requires : tie.Need-item-count-requires
+item-count-requires c κs = search needs
 
 add-to-be16 : tie.Need-add-to-be16
 add-to-be16 c = search needs
@@ -62,7 +62,7 @@ returns c =
     let n = d .args .n in
     let item = d .args .item .now in
     item-put f n item (d .pre .0) (d .pre .1) (p₁ .put .last .0) (p₂ .put2 .last .0) (p₃ .put3 .last .0) (raised .to-be16 .result) (long .to-be162 .result)
-    (raised .to-be16 .ensures ∙ ap (λ (k : ℕ). bigEndian 2 (k + 1)) (read .number16 .ensures .0 ∙ count-read f n item (d .pre .0) (d .pre .1)))
+    (raised .to-be16 .ensures ∙ ap (λ (k : ℕ). bigEndian 2 (k + 1)) (read .item-count .ensures .0 ∙ count-read f n item (d .pre .0) (d .pre .1)))
     (long .to-be162 .ensures)
     (p₁ .put .ensures) (p₂ .put2 .ensures) (p₃ .put3 .ensures)
 
@@ -70,7 +70,7 @@ pub put-item-spec : {M : Type 1} → statement M
 put-item-spec =
     tie.close
     (tie.spec
-    number16-requires
+    item-count-requires
     add-to-be16
     cast-to-be16
     to-be16-requires

@@ -6,8 +6,6 @@ use native.Mathlib.Omega.{arith}
 use lib.ListN.{length}
 use denote.Ref.{now}
 use Rattle.printing.specs.Text.{over}
-use Rattle.files.specs.Message.{itemCount}
-use Rattle.sizes.proofs.Laws.{tags-few}
 use Rattle.printing.proofs.Putting.{put-as, put-front}
 use Rattle.checks.proofs.Checking.{taggable}
 use Rattle.reporting.proofs.Texts.{tag-refused, tag-done, tag-file}
@@ -35,28 +33,16 @@ returns c =
     let p = c .before .before .put-refused .ensures in
     put-front _ _ _ _ (put-as _ _ _ _ _ _ (tag-refused (now (a .keys)) (a .code) (now (a .first)) (now (a .second)) (r .result) (r .ensures .0) (c .before .before .before .before .if1 .taken)) (p .0, p .1 .0))
 
-number16-requires : tie.Need-number16-requires
-number16-requires c κs =
+item-count-requires : tie.Need-item-count-requires
+item-count-requires c κs =
     let d = c .before .before .before .before .before .before .before .before .before in
     let a = d .args in
     let r = c .before .before .before .tag in
     let T = taggable (now (a .keys)) (a .code) (now (a .first)) 1336 (r .result) (r .ensures .0) (c .if1 .left) in
     T .message .long
 
-tags-requires : tie.Need-tags-requires
-tags-requires c κs = search needs
-
-mul-end : tie.Need-mul-end
-mul-end c =
-    let e = c .tags .ensures in
-    let few = tags-few (c .before .before .before .before .before .before .before .before .before .before .before .args .code) in
-    omega (arith, e, few)
-
-add-end : tie.Need-add-end
-add-end c =
-    let e = c .tags .ensures in
-    let few = tags-few (c .before .before .before .before .before .before .before .before .before .before .before .args .code) in
-    omega (arith, e, few)
+file-size-requires : tie.Need-file-size-requires
+file-size-requires c κs = search needs
 
 sub-put-report : tie.Need-sub-put-report
 sub-put-report c = search needs
@@ -65,10 +51,7 @@ part-put-report-start : tie.Need-part-put-report-start
 part-put-report-start c = search needs
 
 part-put-report-end : tie.Need-part-put-report-end
-part-put-report-end c =
-    let e = c .before .tags .ensures in
-    let few = tags-few (c .before .before .before .before .before .before .before .before .before .before .before .before .args .code) in
-    omega (arith, e, few)
+part-put-report-end c = search needs
 
 put-report-requires : tie.Need-put-report-requires
 put-report-requires c κs = search needs
@@ -77,13 +60,12 @@ same-length-2 : tie.Need-same-length-2
 same-length-2 c = search needs
 
 returns-2 : tie.Need-returns-2
-unfolding itemCount
 returns-2 c =
     let d = c .before .before .before .before .before .before .before .before .before .before .before .before .before .before .before .before .before in
     let a = d .args in
     let r = c .before .before .before .before .before .before .before .before .before .before .before .tag in
-    let f = tag-file (now (a .keys)) (a .code) (now (a .first)) (now (a .second)) (r .result) (r .ensures .0) (c .before .before .before .before .before .before .before .before .if1 .left) _ _ _ (c .before .before .before .before .before .before .tags .ensures) refl (r .ensures .1) in
-    let w = tag-done (now (a .keys)) (a .code) (now (a .first)) (now (a .second)) (r .result) (r .ensures .0) (c .before .before .before .before .before .before .before .before .if1 .left) _ _ (c .before .before .before .before .before .before .before .number16 .ensures .0) f in
+    let f = tag-file (now (a .keys)) (a .code) (now (a .first)) (now (a .second)) (r .result) (r .ensures .0) (c .before .before .before .before .before .before .before .before .if1 .left) _ _ (c .before .before .before .before .before .before .file-size .ensures .0) (r .ensures .1) in
+    let w = tag-done (now (a .keys)) (a .code) (now (a .first)) (now (a .second)) (r .result) (r .ensures .0) (c .before .before .before .before .before .before .before .before .if1 .left) _ _ (c .before .before .before .before .before .before .before .item-count .ensures .0) f in
     let p = c .before .before .put-report .ensures in
     (p .0 ∙ ap (λ (t : List ℕ). over 0 t (now (a .out))) w, p .1 ∙ ap length w)
 
@@ -96,10 +78,8 @@ put-both-spec =
     put-refused-requires
     same-length
     returns
-    number16-requires
-    tags-requires
-    mul-end
-    add-end
+    item-count-requires
+    file-size-requires
     sub-put-report
     part-put-report-start
     part-put-report-end

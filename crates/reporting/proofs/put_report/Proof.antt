@@ -7,7 +7,6 @@ use native.Mathlib.Omega.{arith}
 use lib.ListN.{length}
 use denote.Ref.{now}
 use Rattle.printing.proofs.Putting.{put-as, put-front}
-use Rattle.files.specs.Message.{itemCount}
 use Rattle.checks.proofs.Checking.{reportable}
 use Rattle.reporting.proofs.Texts.{report-refused, report-done}
 use borrow.Author.Needs.{needs}
@@ -34,8 +33,8 @@ returns c =
     let p = c .before .before .put-refused .ensures in
     put-front _ _ _ _ (put-as _ _ _ _ _ _ (report-refused (now (a .keys)) (a .code) (a .n) (now (a .s)) (now (a .file)) (r .result .refused) (r .ensures .0) (c .before .before .before .before .if1 .taken)) (p .0, p .1 .0))
 
-number16-requires : tie.Need-number16-requires
-number16-requires c κs =
+item-count-requires : tie.Need-item-count-requires
+item-count-requires c κs =
     let d = c .before .before .before .before .before .before .before .before .before .before in
     let a = d .args in
     let r = c .before .before .before .before .report in
@@ -46,13 +45,12 @@ slice-aggregate-put-report : tie.Need-slice-aggregate-put-report
 slice-aggregate-put-report c = search needs
 
 put-report-requires : tie.Need-put-report-requires
-unfolding itemCount
 put-report-requires c κs =
     let d = c .before .before .before .before .before .before .before .before .before .before .before .before .before in
     let a = d .args in
     let r = c .before .before .before .before .before .before .before .report in
     let R = reportable (now (a .keys)) (now (a .s)) (now (a .file)) 273 (r .result .refused) (r .ensures .0) (c .before .before .before .if1 .left) in
-    let n = c .before .before .number16 .ensures .0 in
+    let n = c .before .before .item-count .ensures .0 in
     let few = R .fits in
     let long : length (r .last .1 .1 .1 .0) ≡ 273 = search needs in
     (omega arith, omega (arith, few, n), omega (arith, few, n, long))
@@ -61,14 +59,13 @@ same-length-2 : tie.Need-same-length-2
 same-length-2 c = search needs
 
 returns-2 : tie.Need-returns-2
-unfolding itemCount
 returns-2 c =
     let d = c .before .before .before .before .before .before .before .before .before .before .before .before .before .before .before .before in
     let a = d .args in
     let r = c .before .before .before .before .before .before .before .before .before .before .report in
     let e = r .ensures .1 in
     let p = c .before .before .put-report .ensures in
-    let w = report-done (now (a .keys)) (a .code) (a .n) (now (a .s)) (now (a .file)) (r .result .refused) (r .ensures .0) (c .before .before .before .before .before .before .if1 .left) _ _ _ _ _ (e .1 .0) (e .1 .1 .0) (e .1 .1 .1 .0) (e .0) (c .before .before .before .before .before .number16 .ensures .0) in
+    let w = report-done (now (a .keys)) (a .code) (a .n) (now (a .s)) (now (a .file)) (r .result .refused) (r .ensures .0) (c .before .before .before .before .before .before .if1 .left) _ _ _ _ _ (e .1 .0) (e .1 .1 .0) (e .1 .1 .1 .0) (e .0) (c .before .before .before .before .before .item-count .ensures .0) in
     (p .0 ∙ ap (λ (t : List ℕ). over 0 t (now (a .out))) w, p .1 .0 ∙ ap length w)
 
 pub put-report-spec : {M : Type 1} → statement M
@@ -80,7 +77,7 @@ put-report-spec =
     put-refused-requires
     same-length
     returns
-    number16-requires
+    item-count-requires
     slice-aggregate-put-report
     put-report-requires
     same-length-2

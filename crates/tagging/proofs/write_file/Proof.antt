@@ -58,7 +58,6 @@ module _ (c : tie.After-write-tags) where
   written :
       putMid 8 (length (at .put-header .last .0) - 8) (at .put-header .last .0) (c .write-tags .last .1 .1 .1 .0)
       ≡ take 8 (at .put-header .last .0) ++ (tags ++ drop (8 + 16 * at .before .before .before .before .tags .result) (at .put-header .last .0))
-
   written =
       part-back (at .put-header .last .0) _ tags 8 (16 * at .before .before .before .before .tags .result) (omega (arith, behind at))
       (tags-expanded (start .args .keys .tag) _ _ _ _ _ (c .before .before .key-expansion .ensures) (c .write-tags .ensures))

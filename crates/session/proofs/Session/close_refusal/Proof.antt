@@ -1,53 +1,21 @@
--- The first of 24, 23 and 7.
+-- 24, 23 and 7 (Passing).
 use mathlib.Core.Path.{ap, _∙_}
-use Prim.Native.Nat.{ℕ, _+_, _*_}
-use native.Mathlib.Omega.{arith}
-use Rattle.sizes.proofs.Laws.{tags-few}
-use Rattle.files.specs.TagFile.{fileSize}
+use Prim.Native.Nat.{ℕ}
 use Rattle.files.specs.Arguments.{refuse7}
-use Rattle.session.proofs.Stepping.{first-same}
+use Rattle.files.proofs.Passing.{same-first, same-cons, same-nil}
 use borrow.Author.Needs.{needs}
 use Rattle.session.proofs.Session.close_refusal.Statement.{statement}
 use Rattle.session.proofs.Session.close_refusal.Tie as tie
 
-tags-requires : tie.Need-tags-requires
-tags-requires c κs = search needs
-
-mul-size : tie.Need-mul-size
-mul-size c = omega (arith, c .tags .ensures, tags-few (c .before .args .self .code))
-
-add-size : tie.Need-add-size
-add-size c = omega (arith, c .tags .ensures, tags-few (c .before .args .self .code))
-
-check-open-requires : tie.Need-check-open-requires
-check-open-requires c κs = search needs
-
-check-all-requires : tie.Need-check-all-requires
-check-all-requires c κs = search needs
-
-check-room-requires : tie.Need-check-room-requires
-check-room-requires c κs = search needs
-
-first-of-requires : tie.Need-first-of-requires
-first-of-requires c κs = search needs
-
 returns : tie.Need-returns
-unfolding fileSize
 returns c =
-    let t = c .before .before .before .before in
-    c .first-of .ensures
-    ∙ first-same _ _ _ _ _ _ (c .before .before .before .check-open .ensures) (c .before .before .check-all .ensures)
-    (c .before .check-room .ensures ∙ ap (λ (m : ℕ). refuse7 (24 + 16 * m) (t .before .args .room)) (t .tags .ensures))
+    let q = c .before in
+    let e = q .before .before in
+    let d = e .before in
+    same-first _ _ _ (c .first3 .ensures)
+    (same-cons (e .check-open .ensures) (same-cons (q .before .check-all .ensures)
+    (same-cons (q .check-room .ensures ∙ ap (λ (n : ℕ). refuse7 n (d .before .args .room)) (d .file-size .ensures .0)) same-nil)))
 
 pub close-refusal-spec : {M : Type 1} → statement M
 close-refusal-spec =
-    tie.close
-    (tie.spec
-    tags-requires
-    mul-size
-    add-size
-    check-open-requires
-    check-all-requires
-    check-room-requires
-    first-of-requires
-    returns)
+    tie.close (tie.spec (λ c κs. search needs) (λ c κs. search needs) (λ c κs. search needs) (λ c κs. search needs) (λ c κs. search needs) returns)
