@@ -22,5 +22,5 @@ returns c =
 pub check-counts-spec : {M : Type 1} → statement M
 check-counts-spec =
     tie.close
-    (tie.spec (λ c κs. omega (arith, formed _ (c .before .before .pre .1))) (λ c κs. omega (arith, headed _ (c .before .before .before .pre .0)))
-    (λ c κs. search needs) returns)
+    (tie.spec (λ c κs. omega (arith, formed _ (c .before .before .pre .1)))
+    (λ c κs. omega (arith, headed _ (c .before .before .before .pre .0))) (λ c κs. search needs) returns)

@@ -16,5 +16,5 @@ pub report-refusal-spec : {M : Type 1} → statement M
 unfolding reportRefusal
 report-refusal-spec =
     tie.close
-    (tie.spec (λ c κs. search needs) (λ c. stop _ _ _ (c .before .before .verify-refusal .ensures) (c .if1 .taken)) check-marks-requires (λ c κs. search needs)
-    (λ c. search listed depth 12))
+    (tie.spec (λ c κs. search needs) (λ c. stop _ _ _ (c .before .before .verify-refusal .ensures) (c .if1 .taken))
+    check-marks-requires (λ c κs. search needs) (λ c. search listed depth 12))

@@ -5,19 +5,10 @@ use borrow.Author.Needs.{needs}
 use Rattle.firmware.proofs.gtm_tag.Statement.{statement}
 use Rattle.firmware.proofs.gtm_tag.Tie as tie
 
-tag-requires : tie.Need-tag-requires
-tag-requires c κs = search needs
-
-pack-requires : tie.Need-pack-requires
-pack-requires c κs = search needs
-
-same-length : tie.Need-same-length
-same-length c = search needs
-
 returns : tie.Need-returns
 returns c =
     let t = c .before .before .before .tag .ensures in
     (c .pack .ensures ∙ ap packed (t .0), t .1)
 
 pub gtm-tag-spec : {M : Type 1} → statement M
-gtm-tag-spec = tie.close (tie.spec tag-requires pack-requires same-length returns)
+gtm-tag-spec = tie.close (tie.spec (λ c κs. search needs) (λ c κs. search needs) (λ c. search needs) returns)

@@ -5,14 +5,8 @@ use borrow.Author.Needs.{needs}
 use Rattle.firmware.proofs.gtm_verify.Statement.{statement}
 use Rattle.firmware.proofs.gtm_verify.Tie as tie
 
-verify-requires : tie.Need-verify-requires
-verify-requires c κs = search needs
-
-pack-verify-requires : tie.Need-pack-verify-requires
-pack-verify-requires c κs = search needs
-
 returns : tie.Need-returns
 returns c = c .pack-verify .ensures ∙ ap₂ packedYes (c .before .verify .ensures .0) (c .before .verify .ensures .1)
 
 pub gtm-verify-spec : {M : Type 1} → statement M
-gtm-verify-spec = tie.close (tie.spec verify-requires pack-verify-requires returns)
+gtm-verify-spec = tie.close (tie.spec (λ c κs. search needs) (λ c κs. search needs) returns)

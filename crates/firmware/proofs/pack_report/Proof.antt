@@ -8,9 +8,6 @@ use borrow.Author.Needs.{needs}
 use Rattle.firmware.proofs.pack_report.Statement.{statement}
 use Rattle.firmware.proofs.pack_report.Tie as tie
 
-pack-requires : tie.Need-pack-requires
-pack-requires c κs = search needs
-
 returns : tie.Need-returns
 returns c =
     let d = c .before .before .before .before in
@@ -19,20 +16,11 @@ returns c =
       λ z. sym (number-back (d .args .r .refused) (omega (arith, c .before .before .struct-known .given))) ∙ ap numberIn (sym (c .pack .ensures)) ∙ z,
     )
 
-ordinal-requires : tie.Need-ordinal-requires
-ordinal-requires c κs = search needs
-
 mul-result : tie.Need-mul-result
 mul-result c = omega (arith, c .ordinal .ensures, ordinal-small (c .before .before .before .before .args .r .answer))
 
-mul-result-2 : tie.Need-mul-result-2
-mul-result-2 c = search needs
-
 add-result : tie.Need-add-result
 add-result c = omega (arith, c .ordinal .ensures, ordinal-small (c .before .before .before .before .args .r .answer))
-
-mul-result-3 : tie.Need-mul-result-3
-mul-result-3 c = search needs
 
 add-result-2 : tie.Need-add-result-2
 add-result-2 c = omega (arith, c .ordinal .ensures, ordinal-small (c .before .before .before .before .args .r .answer))
@@ -49,13 +37,5 @@ returns-2 c =
 pub pack-report-spec : {M : Type 1} → statement M
 pack-report-spec =
     tie.close
-    (tie.spec
-    pack-requires
-    returns
-    ordinal-requires
-    mul-result
-    mul-result-2
-    add-result
-    mul-result-3
-    add-result-2
-    returns-2)
+    (tie.spec (λ c κs. search needs) returns (λ c κs. search needs) mul-result (λ c. search needs) add-result (λ c. search needs)
+    add-result-2 returns-2)

@@ -8,9 +8,6 @@ use borrow.Author.Needs.{needs}
 use Rattle.firmware.proofs.pack_verify.Statement.{statement}
 use Rattle.firmware.proofs.pack_verify.Tie as tie
 
-pack-requires : tie.Need-pack-requires
-pack-requires c κs = search needs
-
 returns : tie.Need-returns
 returns c = c .pack .ensures ∙ yes-refused _ _ (c .before .if1 .taken)
 
@@ -21,4 +18,4 @@ returns-3 : tie.Need-returns-3
 returns-3 c = ap (λ (t : Bool). 256 * indicator t) (sym (c .if2 .left)) ∙ yes-done _ _ (c .before .if1 .left)
 
 pub pack-verify-spec : {M : Type 1} → statement M
-pack-verify-spec = tie.close (tie.spec pack-requires returns returns-2 returns-3)
+pack-verify-spec = tie.close (tie.spec (λ c κs. search needs) returns returns-2 returns-3)

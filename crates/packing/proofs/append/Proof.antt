@@ -7,12 +7,6 @@ use borrow.Author.Needs.{needs}
 use Rattle.packing.proofs.append.Statement.{statement}
 use Rattle.packing.proofs.append.Tie as tie
 
-append-refusal-requires : tie.Need-append-refusal-requires
-append-refusal-requires c κs = search needs
-
-same-length : tie.Need-same-length
-same-length c = search needs
-
 returns : tie.Need-returns
 unfolding appendWrites
 returns c =
@@ -29,9 +23,6 @@ put-item-requires c κs =
     let p = appendable (d .file .now) (d .n) (d .item .now) _ (q .append-refusal .ensures) (c .before .if1 .left) in
     (p .low, p .room, p .short, p .more)
 
-same-length-2 : tie.Need-same-length-2
-same-length-2 c = search needs
-
 returns-2 : tie.Need-returns-2
 unfolding appendWrites
 returns-2 c =
@@ -45,10 +36,4 @@ returns-2 c =
 pub append-spec : {M : Type 1} → statement M
 append-spec =
     tie.close
-    (tie.spec
-    append-refusal-requires
-    same-length
-    returns
-    put-item-requires
-    same-length-2
-    returns-2)
+    (tie.spec (λ c κs. search needs) (λ c. search needs) returns put-item-requires (λ c. search needs) returns-2)

@@ -38,6 +38,7 @@ pub append-refusal-spec : {M : Type 1} → statement M
 unfolding appendRefusal
 append-refusal-spec =
     tie.close
-    (tie.spec (λ c κs. search needs) (λ c κs. search needs) (λ c κs. search needs) (λ c. rw run2 (stop _ _ _ (search listed depth 12) (c .if1 .taken)))
-    (λ c. search needs) (λ c. search needs) (λ c. omega (arith, room c)) (λ c. omega (arith, room (c .before))) (λ c. omega (arith, room (c .before)))
+    (tie.spec (λ c κs. search needs) (λ c κs. search needs) (λ c κs. search needs)
+    (λ c. rw run2 (stop _ _ _ (search listed depth 12) (c .if1 .taken))) (λ c. search needs) (λ c. search needs)
+    (λ c. omega (arith, room c)) (λ c. omega (arith, room (c .before))) (λ c. omega (arith, room (c .before)))
     (λ c κs. search needs) (λ c κs. search needs) returns-2)

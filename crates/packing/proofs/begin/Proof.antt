@@ -12,9 +12,6 @@ use borrow.Author.Needs.{needs}
 use Rattle.packing.proofs.begin.Statement.{statement}
 use Rattle.packing.proofs.begin.Tie as tie
 
-check-room-requires : tie.Need-check-room-requires
-check-room-requires c κs = search needs
-
 returns : tie.Need-returns
 unfolding beginFileRefusal beginFileWrites
 returns c =
@@ -23,18 +20,12 @@ returns c =
     let e = q .check-room .ensures in
     (e, kept _ (beginFileRefusal (length o)) e (messageOf [] ++ drop 7 o) o (c .if1 .taken))
 
-slice-aggregate-put : tie.Need-slice-aggregate-put
-slice-aggregate-put c = search needs
-
 put-requires : tie.Need-put-requires
 put-requires c κs =
     let f = c .before .before in
     let q = f .before .before in
     let l = room-tells 7 (length (q .before .before .args .out .now)) _ (q .check-room .ensures) (f .if1 .left) in
     omega arith
-
-same-length : tie.Need-same-length
-same-length c = search needs
 
 returns-2 : tie.Need-returns-2
 unfolding beginFileRefusal beginFileWrites messageOf fields prefix bigEndian
@@ -47,6 +38,4 @@ returns-2 c =
     (e, p .put .ensures ∙ given _ (beginFileRefusal (length o)) e (messageOf [] ++ drop 7 o) o (f .if1 .left))
 
 pub begin-spec : {M : Type 1} → statement M
-begin-spec =
-    tie.close
-    (tie.spec check-room-requires returns slice-aggregate-put put-requires same-length returns-2)
+begin-spec = tie.close (tie.spec (λ c κs. search needs) returns (λ c. search needs) put-requires (λ c. search needs) returns-2)

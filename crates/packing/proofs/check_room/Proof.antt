@@ -11,16 +11,10 @@ returns c =
     let d = c .before .before .args in
     room-short (d .room) (d .n) (length (d .item .now)) (c .if1 .taken)
 
-add-check-room : tie.Need-add-check-room
-add-check-room c = search needs
-
-check-room-requires : tie.Need-check-room-requires
-check-room-requires c κs = search needs
-
 returns-2 : tie.Need-returns-2
 returns-2 c =
     let d = c .before .before .before .args in
     c .check-room .ensures ∙ room-rest (d .room) (d .n) (length (d .item .now)) (c .before .if1 .left)
 
 pub check-room-spec : {M : Type 1} → statement M
-check-room-spec = tie.close (tie.spec returns add-check-room check-room-requires returns-2)
+check-room-spec = tie.close (tie.spec returns (λ c. search needs) (λ c κs. search needs) returns-2)

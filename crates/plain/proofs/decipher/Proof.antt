@@ -5,12 +5,6 @@ use borrow.Author.Needs.{needs}
 use Rattle.plain.proofs.decipher.Statement.{statement}
 use Rattle.plain.proofs.decipher.Tie as tie
 
-expand-requires : tie.Need-expand-requires
-expand-requires c κs = search needs
-
-decipher-with-requires : tie.Need-decipher-with-requires
-decipher-with-requires c κs = search needs
-
 returns : tie.Need-returns
 returns c =
     let d = c .before .before in
@@ -19,4 +13,4 @@ returns c =
     deciphered key hk _ (d .args .block) _ (c .before .expand .ensures) (c .decipher-with .ensures)
 
 pub decipher-spec : {M : Type 1} → statement M
-decipher-spec = tie.close (tie.spec expand-requires decipher-with-requires returns)
+decipher-spec = tie.close (tie.spec (λ c κs. search needs) (λ c κs. search needs) returns)

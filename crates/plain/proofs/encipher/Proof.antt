@@ -5,12 +5,6 @@ use borrow.Author.Needs.{needs}
 use Rattle.plain.proofs.encipher.Statement.{statement}
 use Rattle.plain.proofs.encipher.Tie as tie
 
-expand-requires : tie.Need-expand-requires
-expand-requires c κs = search needs
-
-encipher-with-requires : tie.Need-encipher-with-requires
-encipher-with-requires c κs = search needs
-
 returns : tie.Need-returns
 returns c =
     let d = c .before .before in
@@ -19,4 +13,4 @@ returns c =
     enciphered key hk _ (d .args .block) _ (c .before .expand .ensures) (c .encipher-with .ensures)
 
 pub encipher-spec : {M : Type 1} → statement M
-encipher-spec = tie.close (tie.spec expand-requires encipher-with-requires returns)
+encipher-spec = tie.close (tie.spec (λ c κs. search needs) (λ c κs. search needs) returns)

@@ -17,9 +17,6 @@ put-word-requires c κs =
     let fits = room-for (d .args .at) (length (now (d .args .out))) (length (answerLine (d .args .said) (d .args .named) (d .args .rows))) 54 few (d .pre) in
     four₁ (d .args .at) (answerWord (d .args .said)) (labelled " " (d .args .named)) (labelled " rows " (d .args .rows)) (ascii "\n") (now (d .args .out)) fits
 
-slice-aggregate-put-labelled : tie.Need-slice-aggregate-put-labelled
-slice-aggregate-put-labelled c = search needs
-
 put-labelled-requires : tie.Need-put-labelled-requires
 unfolding answerLine labelled ascii
 put-labelled-requires c κs =
@@ -27,9 +24,6 @@ put-labelled-requires c κs =
     let few = answer-short (d .args .said) (d .args .named) (d .args .rows) (search needs) (search needs) in
     let fits = room-for (d .args .at) (length (now (d .args .out))) (length (answerLine (d .args .said) (d .args .named) (d .args .rows))) 54 few (d .pre) in
     four₂ (d .args .at) (answerWord (d .args .said)) (labelled " " (d .args .named)) (labelled " rows " (d .args .rows)) (ascii "\n") (now (d .args .out)) fits (c .before .before .before .before .put-word .ensures)
-
-slice-aggregate-put-labelled-2 : tie.Need-slice-aggregate-put-labelled-2
-slice-aggregate-put-labelled-2 c = search needs
 
 put-labelled-requires-2 : tie.Need-put-labelled-requires-2
 unfolding answerLine labelled ascii
@@ -39,9 +33,6 @@ put-labelled-requires-2 c κs =
     let fits = room-for (d .args .at) (length (now (d .args .out))) (length (answerLine (d .args .said) (d .args .named) (d .args .rows))) 54 few (d .pre) in
     four₃ (d .args .at) (answerWord (d .args .said)) (labelled " " (d .args .named)) (labelled " rows " (d .args .rows)) (ascii "\n") (now (d .args .out)) fits (c .before .before .before .before .before .before .before .before .before .put-word .ensures) (c .before .before .before .before .put-labelled .ensures)
 
-slice-aggregate-put : tie.Need-slice-aggregate-put
-slice-aggregate-put c = search needs
-
 put-requires : tie.Need-put-requires
 unfolding answerLine labelled ascii
 put-requires c κs =
@@ -49,9 +40,6 @@ put-requires c κs =
     let few = answer-short (d .args .said) (d .args .named) (d .args .rows) (search needs) (search needs) in
     let fits = room-for (d .args .at) (length (now (d .args .out))) (length (answerLine (d .args .said) (d .args .named) (d .args .rows))) 54 few (d .pre) in
     four₄ (d .args .at) (answerWord (d .args .said)) (labelled " " (d .args .named)) (labelled " rows " (d .args .rows)) (ascii "\n") (now (d .args .out)) fits (c .before .before .before .before .before .before .before .before .before .before .before .before .before .before .put-word .ensures) (c .before .before .before .before .before .before .before .before .before .put-labelled .ensures) (c .before .before .before .before .put-labelled2 .ensures)
-
-same-length : tie.Need-same-length
-same-length c = search needs
 
 returns : tie.Need-returns
 unfolding answerLine labelled ascii
@@ -64,13 +52,5 @@ returns c =
 pub put-answer-spec : {M : Type 1} → statement M
 put-answer-spec =
     tie.close
-    (tie.spec
-    put-word-requires
-    slice-aggregate-put-labelled
-    put-labelled-requires
-    slice-aggregate-put-labelled-2
-    put-labelled-requires-2
-    slice-aggregate-put
-    put-requires
-    same-length
-    returns)
+    (tie.spec put-word-requires (λ c. search needs) put-labelled-requires (λ c. search needs) put-labelled-requires-2
+    (λ c. search needs) put-requires (λ c. search needs) returns)

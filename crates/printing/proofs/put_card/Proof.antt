@@ -13,26 +13,17 @@ returns c =
     let d = c .before .before in
     put-as _ _ _ _ _ _ (part-none (d .args .mark) (d .args .j) (c .if1 .taken)) (put-none (d .args .at) (now (d .args .out)))
 
-slice-aggregate-put-labelled : tie.Need-slice-aggregate-put-labelled
-slice-aggregate-put-labelled c = search needs
-
 put-labelled-requires : tie.Need-put-labelled-requires
 unfolding cardLine labelled ascii
 put-labelled-requires c κs =
     let d = c .before .before .before .before in
     two₁ (d .args .at) (labelled "card " (d .args .j)) (ascii "\n") (now (d .args .out)) (room-as _ _ _ _ (part-named (d .args .mark) (d .args .j) (c .before .before .if1 .left)) (d .pre))
 
-slice-aggregate-put : tie.Need-slice-aggregate-put
-slice-aggregate-put c = search needs
-
 put-requires : tie.Need-put-requires
 unfolding cardLine labelled ascii
 put-requires c κs =
     let d = c .before .before .before .before .before .before .before .before .before in
     two₂ (d .args .at) (labelled "card " (d .args .j)) (ascii "\n") (now (d .args .out)) (room-as _ _ _ _ (part-named (d .args .mark) (d .args .j) (c .before .before .before .before .before .before .before .if1 .left)) (d .pre)) (c .before .before .before .before .put-labelled .ensures)
-
-same-length : tie.Need-same-length
-same-length c = search needs
 
 returns-2 : tie.Need-returns-2
 unfolding cardLine labelled ascii
@@ -43,11 +34,4 @@ returns-2 c =
 pub put-card-spec : {M : Type 1} → statement M
 put-card-spec =
     tie.close
-    (tie.spec
-    returns
-    slice-aggregate-put-labelled
-    put-labelled-requires
-    slice-aggregate-put
-    put-requires
-    same-length
-    returns-2)
+    (tie.spec returns (λ c. search needs) put-labelled-requires (λ c. search needs) put-requires (λ c. search needs) returns-2)

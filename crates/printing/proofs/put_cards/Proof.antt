@@ -24,12 +24,6 @@ loop-holds c =
     let d = c .before .before in
     (omega arith, put-none (d .args .at) (now (d .args .out)))
 
-shared-slice-read-put-card : tie.Need-shared-slice-read-put-card Inv-loop μ-loop
-shared-slice-read-put-card c = search needs
-
-add-put-card : tie.Need-add-put-card Inv-loop μ-loop
-add-put-card c = search needs
-
 put-card-requires : tie.Need-put-card-requires Inv-loop μ-loop
 put-card-requires c κs =
     let l = c .before .before .before in
@@ -39,12 +33,6 @@ put-card-requires c κs =
     let few = cards-short marks (d .args .n) (search needs) in
     let fits = room-for (d .args .at) (length (now (d .args .out))) (length (cardLines marks (d .args .n))) (26 * d .args .n) few (d .pre .1) in
     two₂ (d .args .at) (cardLines marks j) (cardPart (getD marks j 0) (j + 1)) (now (d .args .out)) (lines-room (d .args .at) j (d .args .n) marks (now (d .args .out)) (omega arith) fits) (l .loop .inv .1)
-
-add-j : tie.Need-add-j Inv-loop μ-loop
-add-j c = search needs
-
-loop-less : tie.Need-loop-less Inv-loop μ-loop
-loop-less c = search needs
 
 loop-again : tie.Need-loop-again Inv-loop μ-loop
 loop-again c =
@@ -80,15 +68,5 @@ returns c =
 pub put-cards-spec : {M : Type 1} → statement M
 put-cards-spec =
     tie.close
-    (tie.spec
-    Inv-loop
-    μ-loop
-    loop-holds
-    shared-slice-read-put-card
-    add-put-card
-    put-card-requires
-    add-j
-    loop-less
-    loop-again
-    same-length
-    returns)
+    (tie.spec Inv-loop μ-loop loop-holds (λ c. search needs) (λ c. search needs) put-card-requires (λ c. search needs)
+    (λ c. search needs) loop-again same-length returns)

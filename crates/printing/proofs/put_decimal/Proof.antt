@@ -19,17 +19,8 @@ abbrev μ-loop : tie.MeasureT-loop
 μ-loop out at n text₀ first₀ rest₀ text first rest = rest
 
 -- src/lib.rt:29:21
-cast-text : tie.Need-cast-text Inv-loop μ-loop
-cast-text c = search needs
-
 -- src/lib.rt:29:16
-add-text : tie.Need-add-text Inv-loop μ-loop
-add-text c = search needs
-
 -- src/lib.rt:29:5
-array-write-text : tie.Need-array-write-text Inv-loop μ-loop
-array-write-text c = search needs
-
 -- src/lib.rt:31:5
 loop-holds : tie.Need-loop-holds Inv-loop μ-loop
 loop-holds c = (search needs, search needs, search needs, digits-first (c .before .args .n) (replicate 20 48) refl)
@@ -39,21 +30,9 @@ sub-first : tie.Need-sub-first Inv-loop μ-loop
 sub-first c = search (needs, tenth-low)
 
 -- src/lib.rt:33:28
-cast-text-2 : tie.Need-cast-text-2 Inv-loop μ-loop
-cast-text-2 c = search needs
-
 -- src/lib.rt:33:23
-add-text-2 : tie.Need-add-text-2 Inv-loop μ-loop
-add-text-2 c = search needs
-
 -- src/lib.rt:33:9
-array-write-text-2 : tie.Need-array-write-text-2 Inv-loop μ-loop
-array-write-text-2 c = search needs
-
 -- src/lib.rt:31:5
-loop-less : tie.Need-loop-less Inv-loop μ-loop
-loop-less c = search needs
-
 -- src/lib.rt:31:5
 loop-again : tie.Need-loop-again Inv-loop μ-loop
 loop-again c =
@@ -67,17 +46,8 @@ loop-again c =
     )
 
 -- src/lib.rt:36:18
-sub-put : tie.Need-sub-put Inv-loop μ-loop
-sub-put c = search needs
-
 -- src/lib.rt:36:18
-part-put-start : tie.Need-part-put-start Inv-loop μ-loop
-part-put-start c = search needs
-
 -- src/lib.rt:36:18
-part-put-end : tie.Need-part-put-end Inv-loop μ-loop
-part-put-end c = search needs
-
 -- src/lib.rt:36:5
 put-requires : tie.Need-put-requires Inv-loop μ-loop
 put-requires c κs =
@@ -87,9 +57,6 @@ put-requires c κs =
     subst (λ (t : List ℕ). l .before .before .args .at + length t ≤ length (now (l .before .before .args .out))) (sym e) (l .before .before .pre)
 
 -- src/lib.rt:22:1
-same-length : tie.Need-same-length Inv-loop μ-loop
-same-length c = search needs
-
 -- src/lib.rt:22:1
 returns : tie.Need-returns Inv-loop μ-loop
 returns c =
@@ -102,22 +69,6 @@ returns c =
 pub put-decimal-spec : {M : Type 1} → statement M
 put-decimal-spec =
     tie.close
-    (tie.spec
-    Inv-loop
-    μ-loop
-    cast-text
-    add-text
-    array-write-text
-    loop-holds
-    sub-first
-    cast-text-2
-    add-text-2
-    array-write-text-2
-    loop-less
-    loop-again
-    sub-put
-    part-put-start
-    part-put-end
-    put-requires
-    same-length
-    returns)
+    (tie.spec Inv-loop μ-loop (λ c. search needs) (λ c. search needs) (λ c. search needs) loop-holds sub-first (λ c. search needs)
+    (λ c. search needs) (λ c. search needs) (λ c. search needs) loop-again (λ c. search needs) (λ c. search needs)
+    (λ c. search needs) put-requires (λ c. search needs) returns)

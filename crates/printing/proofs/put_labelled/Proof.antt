@@ -16,13 +16,10 @@ put-decimal-requires c κs =
     let d = c .before .before .before .before .before .before .before in
     two₂ (d .args .at) (now (d .args .word)) (decimal (d .args .n)) (now (d .args .out)) (d .pre) (c .before .before .before .put .ensures)
 
-same-length : tie.Need-same-length
-same-length c = search needs
-
 returns : tie.Need-returns
 returns c =
     let d = c .before .before .before .before .before .before .before .before .before .before in
     two (d .args .at) (now (d .args .word)) (decimal (d .args .n)) (now (d .args .out)) (d .pre) (c .before .before .before .before .before .before .put .ensures) (c .before .before .put-decimal .ensures)
 
 pub put-labelled-spec : {M : Type 1} → statement M
-put-labelled-spec = tie.close (tie.spec put-requires put-decimal-requires same-length returns)
+put-labelled-spec = tie.close (tie.spec put-requires put-decimal-requires (λ c. search needs) returns)

@@ -11,9 +11,6 @@ use borrow.Author.Needs.{needs}
 use Rattle.printing.proofs.put_limits.Statement.{statement}
 use Rattle.printing.proofs.put_limits.Tie as tie
 
-slice-aggregate-put-labelled : tie.Need-slice-aggregate-put-labelled
-slice-aggregate-put-labelled c = search needs
-
 put-labelled-requires : tie.Need-put-labelled-requires
 unfolding limitsLine labelled ascii
 put-labelled-requires c κs =
@@ -22,12 +19,6 @@ put-labelled-requires c κs =
     let fits = room-for (d .args .at) (length (now (d .args .out))) (length (limitsLine (d .args .code) (d .args .n))) 80 few (d .pre) in
     four₁ (d .args .at) (labelled "cards " (d .args .n)) (labelled " tags " (familyOf (d .args .code) .tags)) (labelled " limit " (familyOf (d .args .code) .limit)) (ascii "\n") (now (d .args .out)) fits
 
-slice-aggregate-put-labelled-2 : tie.Need-slice-aggregate-put-labelled-2
-slice-aggregate-put-labelled-2 c = search needs
-
-tags-requires : tie.Need-tags-requires
-tags-requires c κs = search needs
-
 put-labelled-requires-2 : tie.Need-put-labelled-requires-2
 unfolding limitsLine labelled ascii
 put-labelled-requires-2 c κs =
@@ -35,12 +26,6 @@ put-labelled-requires-2 c κs =
     let few = limits-short (d .args .code) (d .args .n) (search needs) in
     let fits = room-for (d .args .at) (length (now (d .args .out))) (length (limitsLine (d .args .code) (d .args .n))) 80 few (d .pre) in
     room-as _ _ _ _ (ap (labelled " tags ") (c .tags .ensures)) (four₂ (d .args .at) (labelled "cards " (d .args .n)) (labelled " tags " (familyOf (d .args .code) .tags)) (labelled " limit " (familyOf (d .args .code) .limit)) (ascii "\n") (now (d .args .out)) fits (c .before .before .before .before .before .put-labelled .ensures))
-
-slice-aggregate-put-labelled-3 : tie.Need-slice-aggregate-put-labelled-3
-slice-aggregate-put-labelled-3 c = search needs
-
-limit-requires : tie.Need-limit-requires
-limit-requires c κs = search needs
 
 put-labelled-requires-3 : tie.Need-put-labelled-requires-3
 unfolding limitsLine labelled ascii
@@ -51,9 +36,6 @@ put-labelled-requires-3 c κs =
     let p = put-as _ _ _ _ _ _ (ap (labelled " tags ") (c .before .before .before .before .before .before .tags .ensures)) (c .before .before .before .before .before .put-labelled2 .ensures) in
     room-as _ _ _ _ (ap (labelled " limit ") (c .limit .ensures)) (four₃ (d .args .at) (labelled "cards " (d .args .n)) (labelled " tags " (familyOf (d .args .code) .tags)) (labelled " limit " (familyOf (d .args .code) .limit)) (ascii "\n") (now (d .args .out)) fits (c .before .before .before .before .before .before .before .before .before .before .before .put-labelled .ensures) p)
 
-slice-aggregate-put : tie.Need-slice-aggregate-put
-slice-aggregate-put c = search needs
-
 put-requires : tie.Need-put-requires
 unfolding limitsLine labelled ascii
 put-requires c κs =
@@ -63,9 +45,6 @@ put-requires c κs =
     let p = put-as _ _ _ _ _ _ (ap (labelled " tags ") (c .before .before .before .before .before .before .before .before .before .before .before .tags .ensures)) (c .before .before .before .before .before .before .before .before .before .before .put-labelled2 .ensures) in
     let q = put-as _ _ _ _ _ _ (ap (labelled " limit ") (c .before .before .before .before .before .limit .ensures)) (c .before .before .before .before .put-labelled3 .ensures) in
     four₄ (d .args .at) (labelled "cards " (d .args .n)) (labelled " tags " (familyOf (d .args .code) .tags)) (labelled " limit " (familyOf (d .args .code) .limit)) (ascii "\n") (now (d .args .out)) fits (c .before .before .before .before .before .before .before .before .before .before .before .before .before .before .before .before .put-labelled .ensures) p q
-
-same-length : tie.Need-same-length
-same-length c = search needs
 
 returns : tie.Need-returns
 unfolding limitsLine labelled ascii
@@ -80,16 +59,6 @@ returns c =
 pub put-limits-spec : {M : Type 1} → statement M
 put-limits-spec =
     tie.close
-    (tie.spec
-    slice-aggregate-put-labelled
-    put-labelled-requires
-    slice-aggregate-put-labelled-2
-    tags-requires
-    put-labelled-requires-2
-    slice-aggregate-put-labelled-3
-    limit-requires
-    put-labelled-requires-3
-    slice-aggregate-put
-    put-requires
-    same-length
+    (tie.spec (λ c. search needs) put-labelled-requires (λ c. search needs) (λ c κs. search needs) put-labelled-requires-2
+    (λ c. search needs) (λ c κs. search needs) put-labelled-requires-3 (λ c. search needs) put-requires (λ c. search needs)
     returns)

@@ -9,12 +9,6 @@ use borrow.Author.Needs.{needs}
 use Rattle.printing.proofs.put_refused.Statement.{statement}
 use Rattle.printing.proofs.put_refused.Tie as tie
 
-slice-aggregate-put-labelled : tie.Need-slice-aggregate-put-labelled
-slice-aggregate-put-labelled c = search needs
-
-cast-put-labelled : tie.Need-cast-put-labelled
-cast-put-labelled c = search needs
-
 put-labelled-requires : tie.Need-put-labelled-requires
 unfolding refusedLine labelled ascii
 put-labelled-requires c κs =
@@ -22,9 +16,6 @@ put-labelled-requires c κs =
     let few = refused-short (d .args .r) (search needs) (search needs) in
     let fits = room-for (d .args .at) (length (now (d .args .out))) (length (refusedLine (d .args .r))) 56 few (d .pre) in
     three₁ (d .args .at) (labelled "refused " (d .args .r .number)) (labelled " place " (d .args .r .place)) (ascii "\n") (now (d .args .out)) fits
-
-slice-aggregate-put-labelled-2 : tie.Need-slice-aggregate-put-labelled-2
-slice-aggregate-put-labelled-2 c = search needs
 
 put-labelled-requires-2 : tie.Need-put-labelled-requires-2
 unfolding refusedLine labelled ascii
@@ -34,9 +25,6 @@ put-labelled-requires-2 c κs =
     let fits = room-for (d .args .at) (length (now (d .args .out))) (length (refusedLine (d .args .r))) 56 few (d .pre) in
     three₂ (d .args .at) (labelled "refused " (d .args .r .number)) (labelled " place " (d .args .r .place)) (ascii "\n") (now (d .args .out)) fits (c .before .before .before .before .put-labelled .ensures)
 
-slice-aggregate-put : tie.Need-slice-aggregate-put
-slice-aggregate-put c = search needs
-
 put-requires : tie.Need-put-requires
 unfolding refusedLine labelled ascii
 put-requires c κs =
@@ -44,9 +32,6 @@ put-requires c κs =
     let few = refused-short (d .args .r) (search needs) (search needs) in
     let fits = room-for (d .args .at) (length (now (d .args .out))) (length (refusedLine (d .args .r))) 56 few (d .pre) in
     three₃ (d .args .at) (labelled "refused " (d .args .r .number)) (labelled " place " (d .args .r .place)) (ascii "\n") (now (d .args .out)) fits (c .before .before .before .before .before .before .before .before .before .put-labelled .ensures) (c .before .before .before .before .put-labelled2 .ensures)
-
-same-length : tie.Need-same-length
-same-length c = search needs
 
 returns : tie.Need-returns
 unfolding refusedLine labelled ascii
@@ -59,13 +44,5 @@ returns c =
 pub put-refused-spec : {M : Type 1} → statement M
 put-refused-spec =
     tie.close
-    (tie.spec
-    slice-aggregate-put-labelled
-    cast-put-labelled
-    put-labelled-requires
-    slice-aggregate-put-labelled-2
-    put-labelled-requires-2
-    slice-aggregate-put
-    put-requires
-    same-length
-    returns)
+    (tie.spec (λ c. search needs) (λ c. search needs) put-labelled-requires (λ c. search needs) put-labelled-requires-2
+    (λ c. search needs) put-requires (λ c. search needs) returns)

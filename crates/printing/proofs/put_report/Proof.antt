@@ -9,18 +9,6 @@ use borrow.Author.Needs.{needs}
 use Rattle.printing.proofs.put_report.Statement.{statement}
 use Rattle.printing.proofs.put_report.Tie as tie
 
-put-limits-requires : tie.Need-put-limits-requires
-put-limits-requires c κs = search needs
-
-put-answer-requires : tie.Need-put-answer-requires
-put-answer-requires c κs = search needs
-
-put-cards-requires : tie.Need-put-cards-requires
-put-cards-requires c κs = search needs
-
-same-length : tie.Need-same-length
-same-length c = search needs
-
 returns : tie.Need-returns
 unfolding reportLines
 returns c =
@@ -38,4 +26,4 @@ returns c =
 pub put-report-spec : {M : Type 1} → statement M
 put-report-spec =
     tie.close
-    (tie.spec put-limits-requires put-answer-requires put-cards-requires same-length returns)
+    (tie.spec (λ c κs. search needs) (λ c κs. search needs) (λ c κs. search needs) (λ c. search needs) returns)

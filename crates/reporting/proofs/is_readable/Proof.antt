@@ -17,12 +17,6 @@ returns c = not-long (now (c .before .before .args .input)) (c .if1 .taken)
 returns-2 : tie.Need-returns-2
 returns-2 c = not-short (now (c .before .before .before .args .input)) (c .if2 .taken)
 
-number16-requires : tie.Need-number16-requires
-number16-requires c κs = search needs
-
-add-result : tie.Need-add-result
-add-result c = search needs
-
 returns-3 : tie.Need-returns-3
 unfolding firstSize
 returns-3 c =
@@ -30,4 +24,4 @@ returns-3 c =
     ap (λ (k : ℕ). leb (51 + k) (length input)) (c .number16 .ensures .0) ∙ if-whole input (omega arith) (omega arith)
 
 pub is-readable-spec : {M : Type 1} → statement M
-is-readable-spec = tie.close (tie.spec returns returns-2 number16-requires add-result returns-3)
+is-readable-spec = tie.close (tie.spec returns returns-2 (λ c κs. search needs) (λ c. search needs) returns-3)

@@ -17,15 +17,6 @@ use borrow.Author.Needs.{needs}
 use Rattle.reporting.proofs.print.Statement.{statement}
 use Rattle.reporting.proofs.print.Tie as tie
 
-is-readable-requires : tie.Need-is-readable-requires
-is-readable-requires c κs = search needs
-
-slice-aggregate-put : tie.Need-slice-aggregate-put
-slice-aggregate-put c = search needs
-
-put-requires : tie.Need-put-requires
-put-requires c κs = search needs
-
 returns : tie.Need-returns
 unfolding ascii
 returns c =
@@ -55,27 +46,12 @@ number16-requires c κs =
     let long = readable-long input yes in
     omega (arith, long)
 
-add-end : tie.Need-add-end
-add-end c = search needs
-
-sub-put-both : tie.Need-sub-put-both
-sub-put-both c = search needs
-
-part-put-both-start : tie.Need-part-put-both-start
-part-put-both-start c = search needs
-
 part-put-both-end : tie.Need-part-put-both-end
 part-put-both-end c =
     let input = now (c .before .before .before .before .before .args .input) in
     let yes : readable input ≡ true = sym (c .before .before .before .is-readable .ensures) ∙ not-false _ (c .before .before .if1 .left) in
     let long = readable-long input yes in
     omega (arith, long)
-
-sub-put-both-2 : tie.Need-sub-put-both-2
-sub-put-both-2 c = search needs
-
-part-put-both-start-2 : tie.Need-part-put-both-start-2
-part-put-both-start-2 c = search needs
 
 part-put-both-end-2 : tie.Need-part-put-both-end-2
 unfolding firstSize
@@ -104,12 +80,6 @@ part-put-both-start-3 c =
     let n = c .before .before .number16 .ensures .0 in
     omega (arith, whole, n)
 
-part-put-both-end-3 : tie.Need-part-put-both-end-3
-part-put-both-end-3 c = search needs
-
-put-both-requires : tie.Need-put-both-requires
-put-both-requires c κs = search needs
-
 returns-2 : tie.Need-returns-2
 returns-2 c =
     let input = now (c .before .before .before .before .before .before .before .before .before .before .args .input) in
@@ -125,23 +95,7 @@ returns-2 c =
 pub print-spec : {M : Type 1} → statement M
 print-spec =
     tie.close
-    (tie.spec
-    is-readable-requires
-    slice-aggregate-put
-    put-requires
-    returns
-    shared-slice-read-code
-    cast-code
-    number16-requires
-    add-end
-    sub-put-both
-    part-put-both-start
-    part-put-both-end
-    sub-put-both-2
-    part-put-both-start-2
-    part-put-both-end-2
-    sub-put-both-3
-    part-put-both-start-3
-    part-put-both-end-3
-    put-both-requires
+    (tie.spec (λ c κs. search needs) (λ c. search needs) (λ c κs. search needs) returns shared-slice-read-code cast-code
+    number16-requires (λ c. search needs) (λ c. search needs) (λ c. search needs) part-put-both-end (λ c. search needs)
+    (λ c. search needs) part-put-both-end-2 sub-put-both-3 part-put-both-start-3 (λ c. search needs) (λ c κs. search needs)
     returns-2)

@@ -13,18 +13,6 @@ use borrow.Author.Needs.{needs}
 use Rattle.reporting.proofs.put_both.Statement.{statement}
 use Rattle.reporting.proofs.put_both.Tie as tie
 
-slice-aggregate-tag : tie.Need-slice-aggregate-tag
-slice-aggregate-tag c = search needs
-
-tag-requires : tie.Need-tag-requires
-tag-requires c κs = search needs
-
-put-refused-requires : tie.Need-put-refused-requires
-put-refused-requires c κs = search needs
-
-same-length : tie.Need-same-length
-same-length c = search needs
-
 returns : tie.Need-returns
 returns c =
     let d = c .before .before .before .before .before .before .before .before .before .before .before .before .before in
@@ -41,24 +29,6 @@ item-count-requires c κs =
     let T = taggable (now (a .keys)) (a .code) (now (a .first)) 1336 (r .result) (r .ensures .0) (c .if1 .left) in
     T .message .long
 
-file-size-requires : tie.Need-file-size-requires
-file-size-requires c κs = search needs
-
-sub-put-report : tie.Need-sub-put-report
-sub-put-report c = search needs
-
-part-put-report-start : tie.Need-part-put-report-start
-part-put-report-start c = search needs
-
-part-put-report-end : tie.Need-part-put-report-end
-part-put-report-end c = search needs
-
-put-report-requires : tie.Need-put-report-requires
-put-report-requires c κs = search needs
-
-same-length-2 : tie.Need-same-length-2
-same-length-2 c = search needs
-
 returns-2 : tie.Need-returns-2
 returns-2 c =
     let d = c .before .before .before .before .before .before .before .before .before .before .before .before .before .before .before .before .before in
@@ -72,17 +42,6 @@ returns-2 c =
 pub put-both-spec : {M : Type 1} → statement M
 put-both-spec =
     tie.close
-    (tie.spec
-    slice-aggregate-tag
-    tag-requires
-    put-refused-requires
-    same-length
-    returns
-    item-count-requires
-    file-size-requires
-    sub-put-report
-    part-put-report-start
-    part-put-report-end
-    put-report-requires
-    same-length-2
+    (tie.spec (λ c. search needs) (λ c κs. search needs) (λ c κs. search needs) (λ c. search needs) returns item-count-requires
+    (λ c κs. search needs) (λ c. search needs) (λ c. search needs) (λ c. search needs) (λ c κs. search needs) (λ c. search needs)
     returns-2)

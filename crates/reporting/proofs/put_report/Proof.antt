@@ -13,18 +13,6 @@ use borrow.Author.Needs.{needs}
 use Rattle.reporting.proofs.put_report.Statement.{statement}
 use Rattle.reporting.proofs.put_report.Tie as tie
 
-slice-aggregate-report : tie.Need-slice-aggregate-report
-slice-aggregate-report c = search needs
-
-report-requires : tie.Need-report-requires
-report-requires c κs = search needs
-
-put-refused-requires : tie.Need-put-refused-requires
-put-refused-requires c κs = search needs
-
-same-length : tie.Need-same-length
-same-length c = search needs
-
 returns : tie.Need-returns
 returns c =
     let d = c .before .before .before .before .before .before .before .before .before .before .before .before .before .before in
@@ -41,9 +29,6 @@ item-count-requires c κs =
     let R = reportable (now (a .keys)) (now (a .s)) (now (a .file)) 273 (r .result .refused) (r .ensures .0) (c .if1 .left) in
     R .files .message .long
 
-slice-aggregate-put-report : tie.Need-slice-aggregate-put-report
-slice-aggregate-put-report c = search needs
-
 put-report-requires : tie.Need-put-report-requires
 put-report-requires c κs =
     let d = c .before .before .before .before .before .before .before .before .before .before .before .before .before in
@@ -54,9 +39,6 @@ put-report-requires c κs =
     let few = R .fits in
     let long : length (r .last .1 .1 .1 .0) ≡ 273 = search needs in
     (omega arith, omega (arith, few, n), omega (arith, few, n, long))
-
-same-length-2 : tie.Need-same-length-2
-same-length-2 c = search needs
 
 returns-2 : tie.Need-returns-2
 returns-2 c =
@@ -71,14 +53,5 @@ returns-2 c =
 pub put-report-spec : {M : Type 1} → statement M
 put-report-spec =
     tie.close
-    (tie.spec
-    slice-aggregate-report
-    report-requires
-    put-refused-requires
-    same-length
-    returns
-    item-count-requires
-    slice-aggregate-put-report
-    put-report-requires
-    same-length-2
-    returns-2)
+    (tie.spec (λ c. search needs) (λ c κs. search needs) (λ c κs. search needs) (λ c. search needs) returns item-count-requires
+    (λ c. search needs) put-report-requires (λ c. search needs) returns-2)

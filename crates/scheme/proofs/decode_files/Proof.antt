@@ -83,5 +83,6 @@ returns c =
 pub decode-files-spec : {M : Type 1} → statement M
 decode-files-spec =
     tie.close
-    (tie.spec (λ c κs. search needs) (λ c κs. search needs) (λ c κs. search needs) (λ c. search needs) sum-rows-requires (λ c. search needs) read-sums-requires
-    (λ c. search needs) (λ c. search needs) fill-rows-requires (λ c. search needs) (λ c. search needs) decode-requires (λ c. search needs) returns)
+    (tie.spec (λ c κs. search needs) (λ c κs. search needs) (λ c κs. search needs) (λ c. search needs) sum-rows-requires
+    (λ c. search needs) read-sums-requires (λ c. search needs) (λ c. search needs) fill-rows-requires (λ c. search needs)
+    (λ c. search needs) decode-requires (λ c. search needs) returns)

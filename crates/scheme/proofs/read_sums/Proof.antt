@@ -41,5 +41,5 @@ returns c =
 pub read-sums-spec : {M : Type 1} → statement M
 read-sums-spec =
     tie.close
-    (tie.spec (λ c κs. search needs) (λ c κs. search needs) (λ c κs. search needs) (λ c. search needs) (λ c. search needs) (λ c. search needs)
-    write-sums-requires (λ c. search needs) returns)
+    (tie.spec (λ c κs. search needs) (λ c κs. search needs) (λ c κs. search needs) (λ c. search needs) (λ c. search needs)
+    (λ c. search needs) write-sums-requires (λ c. search needs) returns)

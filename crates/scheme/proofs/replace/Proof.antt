@@ -7,18 +7,12 @@ use borrow.Author.Needs.{needs}
 use Rattle.scheme.proofs.replace.Statement.{statement}
 use Rattle.scheme.proofs.replace.Tie as tie
 
-replace-refusal-requires : tie.Need-replace-refusal-requires
-replace-refusal-requires c κs = search needs
-
 returns : tie.Need-returns
 unfolding replaceWrites
 returns c = (c .before .before .replace-refusal .ensures, kept _ _ (c .before .before .replace-refusal .ensures) _ _ (c .if1 .taken))
 
 write-replaced-requires : tie.Need-write-replaced-requires
 write-replaced-requires c κs = replaceable _ _ _ _ _ _ _ (c .before .before .before .replace-refusal .ensures) (c .before .if1 .left)
-
-same-length : tie.Need-same-length
-same-length c = search needs
 
 returns-2 : tie.Need-returns-2
 unfolding replaceWrites
@@ -27,6 +21,4 @@ returns-2 c =
     (r .replace-refusal .ensures, c .before .before .write-replaced .ensures ∙ given _ _ (r .replace-refusal .ensures) _ _ (c .before .before .before .before .if1 .left))
 
 pub replace-spec : {M : Type 1} → statement M
-replace-spec =
-    tie.close
-    (tie.spec replace-refusal-requires returns write-replaced-requires same-length returns-2)
+replace-spec = tie.close (tie.spec (λ c κs. search needs) returns write-replaced-requires (λ c. search needs) returns-2)

@@ -11,9 +11,6 @@ use borrow.Author.Needs.{needs}
 use Rattle.scheme.proofs.report.Statement.{statement}
 use Rattle.scheme.proofs.report.Tie as tie
 
-report-refusal-requires : tie.Need-report-refusal-requires
-report-refusal-requires c κs = search needs
-
 returns : tie.Need-returns
 unfolding reportWrites reportAnswer reportNamed reportRows
 returns c =
@@ -23,9 +20,6 @@ returns c =
 
 decode-files-requires : tie.Need-decode-files-requires
 decode-files-requires c κs = reportable _ _ _ _ _ (c .before .before .before .report-refusal .ensures) (c .before .if1 .left)
-
-same-length : tie.Need-same-length
-same-length c = search needs
 
 returns-2 : tie.Need-returns-2
 unfolding reportWrites reportAnswer reportNamed reportRows
@@ -54,6 +48,4 @@ returns-2 c =
     )
 
 pub report-spec : {M : Type 1} → statement M
-report-spec =
-    tie.close
-    (tie.spec report-refusal-requires returns decode-files-requires same-length returns-2)
+report-spec = tie.close (tie.spec (λ c κs. search needs) returns decode-files-requires (λ c. search needs) returns-2)

@@ -7,18 +7,12 @@ use borrow.Author.Needs.{needs}
 use Rattle.scheme.proofs.tag.Statement.{statement}
 use Rattle.scheme.proofs.tag.Tie as tie
 
-tag-refusal-requires : tie.Need-tag-refusal-requires
-tag-refusal-requires c κs = search needs
-
 returns : tie.Need-returns
 unfolding tagWrites
 returns c = (c .before .before .tag-refusal .ensures, kept _ _ (c .before .before .tag-refusal .ensures) _ _ (c .if1 .taken))
 
 write-tag-file-requires : tie.Need-write-tag-file-requires
 write-tag-file-requires c κs = taggable _ _ _ _ _ (c .before .before .before .tag-refusal .ensures) (c .before .if1 .left)
-
-same-length : tie.Need-same-length
-same-length c = search needs
 
 returns-2 : tie.Need-returns-2
 unfolding tagWrites
@@ -27,5 +21,4 @@ returns-2 c =
     (r .tag-refusal .ensures, c .before .before .write-tag-file .ensures ∙ given _ _ (r .tag-refusal .ensures) _ _ (c .before .before .before .before .if1 .left))
 
 pub tag-spec : {M : Type 1} → statement M
-tag-spec =
-    tie.close (tie.spec tag-refusal-requires returns write-tag-file-requires same-length returns-2)
+tag-spec = tie.close (tie.spec (λ c κs. search needs) returns write-tag-file-requires (λ c. search needs) returns-2)

@@ -81,8 +81,9 @@ returns c =
 pub tags-equal-spec : {M : Type 1} → statement M
 tags-equal-spec =
     tie.close
-    (tie.spec (λ c κs. search needs) (λ c κs. search needs) (λ c κs. search needs) (λ c. omega (arith, few c)) (λ c. search needs) sum-tags-requires
-    (λ c κs. search needs) (λ c. search needs) (λ c. search needs) write-tags-requires (λ c. search needs) (λ c. search needs) part-same-end
+    (tie.spec (λ c κs. search needs) (λ c κs. search needs) (λ c κs. search needs) (λ c. omega (arith, few c)) (λ c. search needs)
+    sum-tags-requires (λ c κs. search needs) (λ c. search needs) (λ c. search needs) write-tags-requires (λ c. search needs)
+    (λ c. search needs) part-same-end
     (λ c. omega (arith, few (c .before .before .before .before .before .before .before .before .before .before)))
     (λ c. omega (arith, few (c .before .before .before .before .before .before .before .before .before .before)))
     (λ c. search needs)

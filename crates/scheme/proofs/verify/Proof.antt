@@ -7,9 +7,6 @@ use borrow.Author.Needs.{needs}
 use Rattle.scheme.proofs.verify.Statement.{statement}
 use Rattle.scheme.proofs.verify.Tie as tie
 
-verify-refusal-requires : tie.Need-verify-refusal-requires
-verify-refusal-requires c κs = search needs
-
 returns : tie.Need-returns
 unfolding verifyYes
 returns c = (c .before .before .verify-refusal .ensures, kept _ _ (c .before .before .verify-refusal .ensures) _ _ (c .if1 .taken))
@@ -24,4 +21,4 @@ returns-2 c =
     (r .verify-refusal .ensures, c .tags-equal .ensures ∙ given _ _ (r .verify-refusal .ensures) _ _ (c .before .if1 .left))
 
 pub verify-spec : {M : Type 1} → statement M
-verify-spec = tie.close (tie.spec verify-refusal-requires returns tags-equal-requires returns-2)
+verify-spec = tie.close (tie.spec (λ c κs. search needs) returns tags-equal-requires returns-2)

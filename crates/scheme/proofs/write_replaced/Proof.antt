@@ -83,5 +83,6 @@ returns c =
 pub write-replaced-spec : {M : Type 1} → statement M
 write-replaced-spec =
     tie.close
-    (tie.spec (λ c κs. search needs) (λ c κs. search needs) (λ c. search needs) read-sums-requires (λ c κs. search needs) (λ c. search needs) add-item-requires
-    (λ c. search needs) add-item-requires-2 (λ c. search needs) write-file-requires (λ c. search needs) returns)
+    (tie.spec (λ c κs. search needs) (λ c κs. search needs) (λ c. search needs) read-sums-requires (λ c κs. search needs)
+    (λ c. search needs) add-item-requires (λ c. search needs) add-item-requires-2 (λ c. search needs) write-file-requires
+    (λ c. search needs) returns)

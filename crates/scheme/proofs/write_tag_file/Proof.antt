@@ -36,5 +36,5 @@ returns c =
 pub write-tag-file-spec : {M : Type 1} → statement M
 write-tag-file-spec =
     tie.close
-    (tie.spec (λ c κs. search needs) (λ c κs. search needs) (λ c. search needs) sum-tags-requires (λ c. search needs) write-file-requires
-    (λ c. search needs) returns)
+    (tie.spec (λ c κs. search needs) (λ c κs. search needs) (λ c. search needs) sum-tags-requires (λ c. search needs)
+    write-file-requires (λ c. search needs) returns)

@@ -8,9 +8,6 @@ use borrow.Author.Needs.{needs}
 use Rattle.session.proofs.begin.Statement.{statement}
 use Rattle.session.proofs.begin.Tie as tie
 
-begin-refusal-requires : tie.Need-begin-refusal-requires
-begin-refusal-requires c κs = search needs
-
 keys-in-requires : tie.Need-keys-in-requires
 keys-in-requires c κs =
     let q = c .before .before in
@@ -26,9 +23,6 @@ returns c =
     let e = begun-is k (d .args .code) (d .args .n) _ (c .keys-in .ensures) in
     (q .begin-refusal .ensures, e ∙ given _ (beginRefusal k (d .args .code) (d .args .n)) (q .begin-refusal .ensures) _ closed (c .before .if1 .taken))
 
-closed-requires : tie.Need-closed-requires
-closed-requires c κs = search needs
-
 returns-2 : tie.Need-returns-2
 unfolding beginGives
 returns-2 c =
@@ -38,4 +32,4 @@ returns-2 c =
     (q .begin-refusal .ensures, c .closed .ensures ∙ kept _ (beginRefusal k (d .args .code) (d .args .n)) (q .begin-refusal .ensures) _ closed (c .before .if1 .left))
 
 pub begin-spec : {M : Type 1} → statement M
-begin-spec = tie.close (tie.spec begin-refusal-requires keys-in-requires returns closed-requires returns-2)
+begin-spec = tie.close (tie.spec (λ c κs. search needs) keys-in-requires returns (λ c κs. search needs) returns-2)

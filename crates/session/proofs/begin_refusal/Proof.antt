@@ -7,4 +7,7 @@ use Rattle.session.proofs.begin_refusal.Tie as tie
 
 pub begin-refusal-spec : {M : Type 1} → statement M
 unfolding beginRefusal
-begin-refusal-spec = tie.close (tie.spec (λ c κs. search needs) (λ c κs. search needs) (λ c κs. search needs) (λ c κs. search needs) (λ c. search listed depth 12))
+begin-refusal-spec =
+    tie.close
+    (tie.spec (λ c κs. search needs) (λ c κs. search needs) (λ c κs. search needs) (λ c κs. search needs)
+    (λ c. search listed depth 12))

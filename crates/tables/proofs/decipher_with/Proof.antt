@@ -5,18 +5,6 @@ use borrow.Author.Needs.{needs}
 use Rattle.tables.proofs.decipher_with.Statement.{statement}
 use Rattle.tables.proofs.decipher_with.Tie as tie
 
-table-requires : tie.Need-table-requires
-table-requires c κs = search needs
-
-table-requires-2 : tie.Need-table-requires-2
-table-requires-2 c κs = search needs
-
-decipher-words-requires : tie.Need-decipher-words-requires
-decipher-words-requires c κs = search needs
-
-inv-cipher-requires : tie.Need-inv-cipher-requires
-inv-cipher-requires c κs = search needs
-
 returns : tie.Need-returns
 returns c =
     let w = c .before .before .before .before .before .before .before .args .w in
@@ -26,4 +14,4 @@ returns c =
 pub decipher-with-spec : {M : Type 1} → statement M
 decipher-with-spec =
     tie.close
-    (tie.spec table-requires table-requires-2 decipher-words-requires inv-cipher-requires returns)
+    (tie.spec (λ c κs. search needs) (λ c κs. search needs) (λ c κs. search needs) (λ c κs. search needs) returns)

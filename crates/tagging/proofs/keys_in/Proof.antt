@@ -5,19 +5,9 @@ use borrow.Author.Needs.{needs}
 use Rattle.tagging.proofs.keys_in.Statement.{statement}
 use Rattle.tagging.proofs.keys_in.Tie as tie
 
-block-at-requires : tie.Need-block-at-requires
-block-at-requires c κs = search needs
-
-block-at-requires-2 : tie.Need-block-at-requires-2
-block-at-requires-2 c κs = search needs
-
-block-at-requires-3 : tie.Need-block-at-requires-3
-block-at-requires-3 c κs = search needs
-
 returns : tie.Need-returns
 unfolding slot
 returns c = keys-made _ _ _ _ (c .before .before .block-at .ensures) (c .before .block-at2 .ensures) (c .block-at3 .ensures)
 
 pub keys-in-spec : {M : Type 1} → statement M
-keys-in-spec =
-    tie.close (tie.spec block-at-requires block-at-requires-2 block-at-requires-3 returns)
+keys-in-spec = tie.close (tie.spec (λ c κs. search needs) (λ c κs. search needs) (λ c κs. search needs) returns)

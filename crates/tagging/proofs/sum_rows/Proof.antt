@@ -23,15 +23,6 @@ Inv-loop code s sums₀ k n c₀ sums c = (c .passed ≤ n) × (c .at ≡ behind
 abbrev μ-loop : tie.MeasureT-loop
 μ-loop code s sums₀ k n c₀ sums c = n - c .passed
 
-prepare-requires : tie.Need-prepare-requires Inv-loop μ-loop
-prepare-requires c κs = search needs
-
-item-count-requires : tie.Need-item-count-requires Inv-loop μ-loop
-item-count-requires c κs = search needs
-
-first-requires : tie.Need-first-requires Inv-loop μ-loop
-first-requires c κs = search needs
-
 loop-holds : tie.Need-loop-holds Inv-loop μ-loop
 unfolding behind
 loop-holds c =
@@ -73,9 +64,6 @@ part-item-hash-end c =
     let f = fits-here (d .args .s .now) (d .pre .0 .2) (l .before .before .item-count .result) (l .loop .c .at) (l .loop .c .passed) (l .before .before .item-count .ensures .0) (l .loop .inv .1) (c .before .before .if1 .taken) in
     omega (arith, f .room, c .next .ensures .0)
 
-item-hash-requires : tie.Need-item-hash-requires Inv-loop μ-loop
-item-hash-requires c κs = search needs
-
 add-to-rows-requires : tie.Need-add-to-rows-requires Inv-loop μ-loop
 add-to-rows-requires c κs =
     let l = c .before .before .before .before .before .before .before in
@@ -102,9 +90,6 @@ loop-again c =
           (l .loop .inv .3) (c .before .before .add-to-rows .ensures),
     )
 
-same-length : tie.Need-same-length Inv-loop μ-loop
-same-length c = search needs
-
 returns : tie.Need-returns Inv-loop μ-loop
 unfolding hashes
 returns c =
@@ -118,21 +103,6 @@ returns c =
 pub sum-rows-spec : {M : Type 1} → statement M
 sum-rows-spec =
     tie.close
-    (tie.spec
-    Inv-loop
-    μ-loop
-    prepare-requires
-    item-count-requires
-    first-requires
-    loop-holds
-    add-start
-    next-requires
-    sub-item-hash
-    part-item-hash-start
-    part-item-hash-end
-    item-hash-requires
-    add-to-rows-requires
-    loop-less
-    loop-again
-    same-length
-    returns)
+    (tie.spec Inv-loop μ-loop (λ c κs. search needs) (λ c κs. search needs) (λ c κs. search needs) loop-holds add-start
+    next-requires sub-item-hash part-item-hash-start part-item-hash-end (λ c κs. search needs) add-to-rows-requires loop-less
+    loop-again (λ c. search needs) returns)

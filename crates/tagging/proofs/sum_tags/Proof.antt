@@ -23,15 +23,6 @@ Inv-loop code s sums₀ k n c₀ sums c = (c .passed ≤ n) × (c .at ≡ behind
 abbrev μ-loop : tie.MeasureT-loop
 μ-loop code s sums₀ k n c₀ sums c = n - c .passed
 
-prepare-requires : tie.Need-prepare-requires Inv-loop μ-loop
-prepare-requires c κs = search needs
-
-item-count-requires : tie.Need-item-count-requires Inv-loop μ-loop
-item-count-requires c κs = search needs
-
-first-requires : tie.Need-first-requires Inv-loop μ-loop
-first-requires c κs = search needs
-
 loop-holds : tie.Need-loop-holds Inv-loop μ-loop
 unfolding behind
 loop-holds c =
@@ -99,9 +90,6 @@ loop-again c =
           (l .loop .inv .3) (c .before .before .add-item .ensures),
     )
 
-same-length : tie.Need-same-length Inv-loop μ-loop
-same-length c = search needs
-
 returns : tie.Need-returns Inv-loop μ-loop
 unfolding hashes tagSum
 returns c =
@@ -115,20 +103,6 @@ returns c =
 pub sum-tags-spec : {M : Type 1} → statement M
 sum-tags-spec =
     tie.close
-    (tie.spec
-    Inv-loop
-    μ-loop
-    prepare-requires
-    item-count-requires
-    first-requires
-    loop-holds
-    add-start
-    next-requires
-    sub-add-item
-    part-add-item-start
-    part-add-item-end
-    add-item-requires
-    loop-less
-    loop-again
-    same-length
+    (tie.spec Inv-loop μ-loop (λ c κs. search needs) (λ c κs. search needs) (λ c κs. search needs) loop-holds add-start
+    next-requires sub-add-item part-add-item-start part-add-item-end add-item-requires loop-less loop-again (λ c. search needs)
     returns)

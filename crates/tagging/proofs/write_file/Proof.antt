@@ -82,8 +82,9 @@ returns c =
 pub write-file-spec : {M : Type 1} → statement M
 write-file-spec =
     tie.close
-    (tie.spec (λ c κs. search needs) put-header-requires (λ c κs. search needs) (λ c. omega (arith, behind (c .before .before .before)))
-    (λ c. omega (arith, behind (c .before .before .before))) (λ c. search needs)
+    (tie.spec (λ c κs. search needs) put-header-requires (λ c κs. search needs)
+    (λ c. omega (arith, behind (c .before .before .before))) (λ c. omega (arith, behind (c .before .before .before)))
+    (λ c. search needs)
     (λ c κs. (search needs, simp (length-take, length-drop) (omega (arith, behind (c .before .before .before .before)))))
     (λ c. omega (arith, few (c .before .before .before .before .before .before .before .before .before .before .before .before)))
     (λ c. omega (arith, few (c .before .before .before .before .before .before .before .before .before .before .before .before)))

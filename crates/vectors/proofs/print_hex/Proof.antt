@@ -21,9 +21,6 @@ shared-slice-read-print-hex c = omega arith
 cast-print-hex : tie.Need-cast-print-hex Inv-loop μ-loop
 cast-print-hex c = omega (arith, c .shared-slice-known2 .given (c .before .before .loop .i))
 
-print-hex-requires : tie.Need-print-hex-requires Inv-loop μ-loop
-print-hex-requires c κs = search needs
-
 add-i : tie.Need-add-i Inv-loop μ-loop
 add-i c = omega arith
 
@@ -33,8 +30,8 @@ loop-less c = omega arith
 loop-again : tie.Need-loop-again Inv-loop μ-loop
 loop-again c = omega arith
 
-returns : tie.Need-returns Inv-loop μ-loop
-returns c = search needs
-
 pub print-hex-spec : {M : Type 1} → statement M
-print-hex-spec = tie.close (tie.spec Inv-loop μ-loop loop-holds shared-slice-read-print-hex cast-print-hex print-hex-requires add-i loop-less loop-again returns)
+print-hex-spec =
+    tie.close
+    (tie.spec Inv-loop μ-loop loop-holds shared-slice-read-print-hex cast-print-hex (λ c κs. search needs) add-i loop-less
+    loop-again (λ c. search needs))

@@ -19,35 +19,8 @@ Inv-loop n buf₀ t last words k₀ buf k = (k ≤ n) × (length buf ≡ length 
 abbrev μ-loop : tie.MeasureT-loop
 μ-loop n buf₀ t last words k₀ buf k = n - k
 
-table-requires : tie.Need-table-requires Inv-loop μ-loop
-table-requires c κs = search needs
-
-table-requires-2 : tie.Need-table-requires-2 Inv-loop μ-loop
-table-requires-2 c κs = search needs
-
-decipher-words-requires : tie.Need-decipher-words-requires Inv-loop μ-loop
-decipher-words-requires c κs = search needs
-
 loop-holds : tie.Need-loop-holds Inv-loop μ-loop
 loop-holds c = (omega arith, refl, λ w h g. front-first _ _)
-
-mul-at : tie.Need-mul-at Inv-loop μ-loop
-mul-at c = search needs
-
-block-at-requires : tie.Need-block-at-requires Inv-loop μ-loop
-block-at-requires c κs = search needs
-
-inv-cipher-requires : tie.Need-inv-cipher-requires Inv-loop μ-loop
-inv-cipher-requires c κs = search needs
-
-put-at-requires : tie.Need-put-at-requires Inv-loop μ-loop
-put-at-requires c κs = search needs
-
-add-k : tie.Need-add-k Inv-loop μ-loop
-add-k c = search needs
-
-loop-less : tie.Need-loop-less Inv-loop μ-loop
-loop-less c = search needs
 
 loop-again : tie.Need-loop-again Inv-loop μ-loop
 loop-again c =
@@ -62,9 +35,6 @@ loop-again c =
           (b .block-at .ensures) (r .ensures w hw g) h (c .before .before .put-at .ensures),
     )
 
-same-length : tie.Need-same-length Inv-loop μ-loop
-same-length c = search needs
-
 returns : tie.Need-returns Inv-loop μ-loop
 returns c =
     let l = c .before in
@@ -76,19 +46,6 @@ returns c =
 pub decipher-blocks-spec : {M : Type 1} → statement M
 decipher-blocks-spec =
     tie.close
-    (tie.spec
-    Inv-loop
-    μ-loop
-    table-requires
-    table-requires-2
-    decipher-words-requires
-    loop-holds
-    mul-at
-    block-at-requires
-    inv-cipher-requires
-    put-at-requires
-    add-k
-    loop-less
-    loop-again
-    same-length
-    returns)
+    (tie.spec Inv-loop μ-loop (λ c κs. search needs) (λ c κs. search needs) (λ c κs. search needs) loop-holds (λ c. search needs)
+    (λ c κs. search needs) (λ c κs. search needs) (λ c κs. search needs) (λ c. search needs) (λ c. search needs) loop-again
+    (λ c. search needs) returns)

@@ -5,12 +5,6 @@ use borrow.Author.Needs.{needs}
 use Rattle.cipher.proofs.aes.encipher.Statement.{statement}
 use Rattle.cipher.proofs.aes.encipher.Tie as tie
 
-key-expansion-requires : tie.Need-key-expansion-requires
-key-expansion-requires c κs = search needs
-
-encipher-with-requires : tie.Need-encipher-with-requires
-encipher-with-requires c κs = search needs
-
 returns : tie.Need-returns
 returns c =
     let d = c .before .before in
@@ -19,4 +13,4 @@ returns c =
     enciphered key hk _ (d .args .block) _ (c .before .key-expansion .ensures) (c .encipher-with .ensures)
 
 pub encipher-spec : {M : Type 1} → statement M
-encipher-spec = tie.close (tie.spec key-expansion-requires encipher-with-requires returns)
+encipher-spec = tie.close (tie.spec (λ c κs. search needs) (λ c κs. search needs) returns)

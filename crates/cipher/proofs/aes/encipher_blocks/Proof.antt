@@ -16,32 +16,8 @@ Inv-loop n buf₀ w t last k₀ buf k = (k ≤ n) × Front (λ i. cipher w (slot
 abbrev μ-loop : tie.MeasureT-loop
 μ-loop n buf₀ w t last k₀ buf k = n - k
 
-table-requires : tie.Need-table-requires Inv-loop μ-loop
-table-requires c κs = search needs
-
-table-requires-2 : tie.Need-table-requires-2 Inv-loop μ-loop
-table-requires-2 c κs = search needs
-
 loop-holds : tie.Need-loop-holds Inv-loop μ-loop
 loop-holds c = search (needs, front-first)
-
-mul-at : tie.Need-mul-at Inv-loop μ-loop
-mul-at c = search needs
-
-block-at-requires : tie.Need-block-at-requires Inv-loop μ-loop
-block-at-requires c κs = search needs
-
-cipher-requires : tie.Need-cipher-requires Inv-loop μ-loop
-cipher-requires c κs = search needs
-
-put-at-requires : tie.Need-put-at-requires Inv-loop μ-loop
-put-at-requires c κs = search needs
-
-add-k : tie.Need-add-k Inv-loop μ-loop
-add-k c = search needs
-
-loop-less : tie.Need-loop-less Inv-loop μ-loop
-loop-less c = search needs
 
 loop-again : tie.Need-loop-again Inv-loop μ-loop
 loop-again c =
@@ -54,27 +30,11 @@ loop-again c =
           (b .block-at .ensures) (r .ensures) h (c .before .before .put-at .ensures),
     )
 
-same-length : tie.Need-same-length Inv-loop μ-loop
-same-length c = search needs
-
 returns : tie.Need-returns Inv-loop μ-loop
 returns c = front-done _ _ (c .before .loop .k) _ _ (c .before .loop .inv .1) (omega arith)
 
 pub encipher-blocks-spec : {M : Type 1} → statement M
 encipher-blocks-spec =
     tie.close
-    (tie.spec
-    Inv-loop
-    μ-loop
-    table-requires
-    table-requires-2
-    loop-holds
-    mul-at
-    block-at-requires
-    cipher-requires
-    put-at-requires
-    add-k
-    loop-less
-    loop-again
-    same-length
-    returns)
+    (tie.spec Inv-loop μ-loop (λ c κs. search needs) (λ c κs. search needs) loop-holds (λ c. search needs) (λ c κs. search needs)
+    (λ c κs. search needs) (λ c κs. search needs) (λ c. search needs) (λ c. search needs) loop-again (λ c. search needs) returns)

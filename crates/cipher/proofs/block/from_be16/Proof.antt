@@ -5,15 +5,9 @@ use borrow.Author.Needs.{needs}
 use Rattle.cipher.proofs.block.from_be16.Statement.{statement}
 use Rattle.cipher.proofs.block.from_be16.Tie as tie
 
-mul-result : tie.Need-mul-result
-mul-result c = search needs
-
-add-result : tie.Need-add-result
-add-result c = search needs
-
 returns : tie.Need-returns
 unfolding number numberOf
 returns c = omega arith
 
 pub from-be16-spec : {M : Type 1} → statement M
-from-be16-spec = tie.close (tie.spec mul-result add-result returns)
+from-be16-spec = tie.close (tie.spec (λ c. search needs) (λ c. search needs) returns)

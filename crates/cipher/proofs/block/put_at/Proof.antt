@@ -4,24 +4,10 @@ use borrow.Author.Needs.{needs}
 use Rattle.cipher.proofs.block.put_at.Statement.{statement}
 use Rattle.cipher.proofs.block.put_at.Tie as tie
 
-sub-put : tie.Need-sub-put
-sub-put c = search needs
-
-part-put-start : tie.Need-part-put-start
-part-put-start c = search needs
-
-part-put-end : tie.Need-part-put-end
-part-put-end c = search needs
-
-put-requires : tie.Need-put-requires
-put-requires c κs = search needs
-
-same-length : tie.Need-same-length
-same-length c = search needs
-
 returns : tie.Need-returns
 returns c = search (needs, part-back)
 
 pub put-at-spec : {M : Type 1} → statement M
 put-at-spec =
-    tie.close (tie.spec sub-put part-put-start part-put-end put-requires same-length returns)
+    tie.close
+    (tie.spec (λ c. search needs) (λ c. search needs) (λ c. search needs) (λ c κs. search needs) (λ c. search needs) returns)

@@ -8,12 +8,6 @@ use borrow.Author.Needs.{needs}
 use Rattle.cipher.proofs.block.to_be16.Statement.{statement}
 use Rattle.cipher.proofs.block.to_be16.Tie as tie
 
-cast-t3 : tie.Need-cast-t3
-cast-t3 c = search needs
-
-cast-t5 : tie.Need-cast-t5
-cast-t5 c = search needs
-
 returns : tie.Need-returns
 unfolding bigEndian
 returns c =
@@ -22,4 +16,4 @@ returns c =
     ap (λ (x : ℕ). x ∷ n % 256 ∷ []) e
 
 pub to-be16-spec : {M : Type 1} → statement M
-to-be16-spec = tie.close (tie.spec cast-t3 cast-t5 returns)
+to-be16-spec = tie.close (tie.spec (λ c. search needs) (λ c. search needs) returns)

@@ -8,18 +8,6 @@ use borrow.Author.Needs.{needs}
 use Rattle.cipher.proofs.block.xor_at.Statement.{statement}
 use Rattle.cipher.proofs.block.xor_at.Tie as tie
 
-block-at-requires : tie.Need-block-at-requires
-block-at-requires c κs = search needs
-
-xor-requires : tie.Need-xor-requires
-xor-requires c κs = search needs
-
-put-at-requires : tie.Need-put-at-requires
-put-at-requires c κs = search needs
-
-same-length : tie.Need-same-length
-same-length c = search needs
-
 returns : tie.Need-returns
 returns c =
     let d = c .before .before .before .before .before .before .before .before in
@@ -30,4 +18,5 @@ returns c =
 
 pub xor-at-spec : {M : Type 1} → statement M
 xor-at-spec =
-    tie.close (tie.spec block-at-requires xor-requires put-at-requires same-length returns)
+    tie.close
+    (tie.spec (λ c κs. search needs) (λ c κs. search needs) (λ c κs. search needs) (λ c. search needs) returns)

@@ -19,35 +19,14 @@ Inv-loop t s w first second x₀ at₀ end x at =
 abbrev μ-loop : tie.MeasureT-loop
 μ-loop t s w first second x₀ at₀ end x at = end - at
 
-chain-first-requires : tie.Need-chain-first-requires Inv-loop μ-loop
-chain-first-requires c κs = search needs
-
-add-end : tie.Need-add-end Inv-loop μ-loop
-add-end c = search needs
-
 loop-holds : tie.Need-loop-holds Inv-loop μ-loop
 loop-holds c = let e = c .before .chain-first .ensures in (refl, e .0, e .1, e .2, e .3)
-
-sub-loop : tie.Need-sub-loop Inv-loop μ-loop
-sub-loop c = search needs
 
 sub-block-at : tie.Need-sub-block-at Inv-loop μ-loop
 sub-block-at c = let l = c .before .loop .inv .4 (omega arith) in search needs
 
 block-at-requires : tie.Need-block-at-requires Inv-loop μ-loop
 block-at-requires c κs = let l = c .before .loop .inv .4 (omega arith) in omega arith
-
-xor-requires : tie.Need-xor-requires Inv-loop μ-loop
-xor-requires c κs = search needs
-
-cipher-requires : tie.Need-cipher-requires Inv-loop μ-loop
-cipher-requires c κs = search needs
-
-add-at : tie.Need-add-at Inv-loop μ-loop
-add-at c = search needs
-
-loop-less : tie.Need-loop-less Inv-loop μ-loop
-loop-less c = search needs
 
 loop-again : tie.Need-loop-again Inv-loop μ-loop
 loop-again c =
@@ -73,18 +52,5 @@ returns c = let i = c .before .loop .inv in (i .1, omega arith, i .3, omega arit
 pub chain-all-spec : {M : Type 1} → statement M
 chain-all-spec =
     tie.close
-    (tie.spec
-    Inv-loop
-    μ-loop
-    chain-first-requires
-    add-end
-    loop-holds
-    sub-loop
-    sub-block-at
-    block-at-requires
-    xor-requires
-    cipher-requires
-    add-at
-    loop-less
-    loop-again
-    returns)
+    (tie.spec Inv-loop μ-loop (λ c κs. search needs) (λ c. search needs) loop-holds (λ c. search needs) sub-block-at
+    block-at-requires (λ c κs. search needs) (λ c κs. search needs) (λ c. search needs) (λ c. search needs) loop-again returns)

@@ -18,33 +18,12 @@ Inv-loop t s w first second x₀ at₀ end x at = (end ≡ length first + length
 abbrev μ-loop : tie.MeasureT-loop
 μ-loop t s w first second x₀ at₀ end x at = end - at
 
-add-end : tie.Need-add-end Inv-loop μ-loop
-add-end c = search needs
-
 loop-holds : tie.Need-loop-holds Inv-loop μ-loop
 unfolding chain
 loop-holds c = (refl, omega arith, omega arith, refl)
 
-sub-if1 : tie.Need-sub-if1 Inv-loop μ-loop
-sub-if1 c = search needs
-
 returns : tie.Need-returns Inv-loop μ-loop
 returns c = let i = c .before .before .loop .inv in (i .1, omega arith, i .3, λ h. omega arith)
-
-early-requires : tie.Need-early-requires Inv-loop μ-loop
-early-requires c κs = search needs
-
-xor-requires : tie.Need-xor-requires Inv-loop μ-loop
-xor-requires c κs = search needs
-
-cipher-requires : tie.Need-cipher-requires Inv-loop μ-loop
-cipher-requires c κs = search needs
-
-add-at : tie.Need-add-at Inv-loop μ-loop
-add-at c = search needs
-
-loop-less : tie.Need-loop-less Inv-loop μ-loop
-loop-less c = search needs
 
 loop-again : tie.Need-loop-again Inv-loop μ-loop
 loop-again c =
@@ -67,17 +46,5 @@ returns-2 c = let i = c .before .loop .inv in (i .1, omega arith, i .3, λ h. om
 pub chain-first-spec : {M : Type 1} → statement M
 chain-first-spec =
     tie.close
-    (tie.spec
-    Inv-loop
-    μ-loop
-    add-end
-    loop-holds
-    sub-if1
-    returns
-    early-requires
-    xor-requires
-    cipher-requires
-    add-at
-    loop-less
-    loop-again
-    returns-2)
+    (tie.spec Inv-loop μ-loop (λ c. search needs) loop-holds (λ c. search needs) returns (λ c κs. search needs)
+    (λ c κs. search needs) (λ c κs. search needs) (λ c. search needs) (λ c. search needs) loop-again returns-2)

@@ -6,16 +6,10 @@ use borrow.Author.Needs.{needs}
 use Rattle.cipher.proofs.cmac.cmac_of_parts.Statement.{statement}
 use Rattle.cipher.proofs.cmac.cmac_of_parts.Tie as tie
 
-prepare-requires : tie.Need-prepare-requires
-prepare-requires c κs = search needs
-
-mac-of-parts-requires : tie.Need-mac-of-parts-requires
-mac-of-parts-requires c κs = search needs
-
 returns : tie.Need-returns
 returns c =
     let d = c .before .before .before .before in
     c .mac-of-parts .ensures ∙ mac-ready (d .args .key) _ (d .args .first .now ++ d .args .second .now) (c .before .prepare .ensures)
 
 pub cmac-of-parts-spec : {M : Type 1} → statement M
-cmac-of-parts-spec = tie.close (tie.spec prepare-requires mac-of-parts-requires returns)
+cmac-of-parts-spec = tie.close (tie.spec (λ c κs. search needs) (λ c κs. search needs) returns)

@@ -10,18 +10,6 @@ use borrow.Author.Needs.{needs}
 use Rattle.cipher.proofs.cmac.last_block.Statement.{statement}
 use Rattle.cipher.proofs.cmac.last_block.Tie as tie
 
-add-if1 : tie.Need-add-if1
-add-if1 c = search needs
-
-sub-if1 : tie.Need-sub-if1
-sub-if1 c = search needs
-
-block-requires : tie.Need-block-requires
-block-requires c κs = search needs
-
-xor-requires : tie.Need-xor-requires
-xor-requires c κs = search needs
-
 returns : tie.Need-returns
 returns c =
     let d = c .before .before .before .before .before .args in
@@ -29,12 +17,6 @@ returns c =
     let b = d .second .now in
     let n : length (a ++ b) ≡ length a + length b = length-append a b in
     c .xor .ensures ∙ ap (λ (z : List ℕ). z ⊕ d .k1) (c .before .block .ensures) ∙ last-whole (d .k1) (d .k2) (a ++ b) (d .at) (omega arith)
-
-padded-requires : tie.Need-padded-requires
-padded-requires c κs = search needs
-
-xor-requires-2 : tie.Need-xor-requires-2
-xor-requires-2 c κs = search needs
 
 returns-2 : tie.Need-returns-2
 returns-2 c =
@@ -47,12 +29,5 @@ returns-2 c =
 pub last-block-spec : {M : Type 1} → statement M
 last-block-spec =
     tie.close
-    (tie.spec
-    add-if1
-    sub-if1
-    block-requires
-    xor-requires
-    returns
-    padded-requires
-    xor-requires-2
-    returns-2)
+    (tie.spec (λ c. search needs) (λ c. search needs) (λ c κs. search needs) (λ c κs. search needs) returns (λ c κs. search needs)
+    (λ c κs. search needs) returns-2)

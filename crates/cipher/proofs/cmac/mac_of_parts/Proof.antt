@@ -12,24 +12,6 @@ use borrow.Author.Needs.{needs}
 use Rattle.cipher.proofs.cmac.mac_of_parts.Statement.{statement}
 use Rattle.cipher.proofs.cmac.mac_of_parts.Tie as tie
 
-table-requires : tie.Need-table-requires
-table-requires c κs = search needs
-
-table-requires-2 : tie.Need-table-requires-2
-table-requires-2 c κs = search needs
-
-chain-all-requires : tie.Need-chain-all-requires
-chain-all-requires c κs = search needs
-
-last-block-requires : tie.Need-last-block-requires
-last-block-requires c κs = search needs
-
-xor-requires : tie.Need-xor-requires
-xor-requires c κs = search needs
-
-cipher-requires : tie.Need-cipher-requires
-cipher-requires c κs = search needs
-
 returns : tie.Need-returns
 unfolding macWith
 returns c =
@@ -47,11 +29,5 @@ returns c =
 pub mac-of-parts-spec : {M : Type 1} → statement M
 mac-of-parts-spec =
     tie.close
-    (tie.spec
-    table-requires
-    table-requires-2
-    chain-all-requires
-    last-block-requires
-    xor-requires
-    cipher-requires
-    returns)
+    (tie.spec (λ c κs. search needs) (λ c κs. search needs) (λ c κs. search needs) (λ c κs. search needs) (λ c κs. search needs)
+    (λ c κs. search needs) returns)

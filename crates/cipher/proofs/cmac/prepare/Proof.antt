@@ -8,18 +8,6 @@ use borrow.Author.Needs.{needs}
 use Rattle.cipher.proofs.cmac.prepare.Statement.{statement}
 use Rattle.cipher.proofs.cmac.prepare.Tie as tie
 
-key-expansion-requires : tie.Need-key-expansion-requires
-key-expansion-requires c κs = search needs
-
-encipher-with-requires : tie.Need-encipher-with-requires
-encipher-with-requires c κs = search needs
-
-double-requires : tie.Need-double-requires
-double-requires c κs = search needs
-
-double-requires-2 : tie.Need-double-requires-2
-double-requires-2 c κs = search needs
-
 returns : tie.Need-returns
 unfolding ready subkey1 subkey2
 returns c =
@@ -33,9 +21,4 @@ returns c =
 pub prepare-spec : {M : Type 1} → statement M
 prepare-spec =
     tie.close
-    (tie.spec
-    key-expansion-requires
-    encipher-with-requires
-    double-requires
-    double-requires-2
-    returns)
+    (tie.spec (λ c κs. search needs) (λ c κs. search needs) (λ c κs. search needs) (λ c κs. search needs) returns)

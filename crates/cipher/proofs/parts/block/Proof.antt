@@ -5,22 +5,10 @@ use borrow.Author.Needs.{needs}
 use Rattle.cipher.proofs.parts.block.Statement.{statement}
 use Rattle.cipher.proofs.parts.block.Tie as tie
 
-sub-block-at : tie.Need-sub-block-at
-sub-block-at c = search needs
-
-block-at-requires : tie.Need-block-at-requires
-block-at-requires c κs = search needs
-
 returns : tie.Need-returns
 returns c =
     let d = c .before .before .before .before in
     c .block-at .ensures ∙ in-second (d .args .a .now) (d .args .b .now) (d .args .at) (c .before .if1 .taken)
 
-early-requires : tie.Need-early-requires
-early-requires c κs = search needs
-
-returns-2 : tie.Need-returns-2
-returns-2 c = search needs
-
 pub block-spec : {M : Type 1} → statement M
-block-spec = tie.close (tie.spec sub-block-at block-at-requires returns early-requires returns-2)
+block-spec = tie.close (tie.spec (λ c. search needs) (λ c κs. search needs) returns (λ c κs. search needs) (λ c. search needs))

@@ -4,15 +4,6 @@ use borrow.Author.Needs.{needs}
 use Rattle.cipher.proofs.parts.byte.Statement.{statement}
 use Rattle.cipher.proofs.parts.byte.Tie as tie
 
-shared-slice-read-result : tie.Need-shared-slice-read-result
-shared-slice-read-result c = search needs
-
-sub-result : tie.Need-sub-result
-sub-result c = search needs
-
-shared-slice-read-result-2 : tie.Need-shared-slice-read-result-2
-shared-slice-read-result-2 c = search needs
-
 returns : tie.Need-returns
 returns c =
     let d = c .before .before in
@@ -24,6 +15,4 @@ returns-2 c =
     byte-second (d .args .a .now) (d .args .b .now) (d .args .at) (c .before .if1 .left)
 
 pub byte-spec : {M : Type 1} → statement M
-byte-spec =
-    tie.close
-    (tie.spec shared-slice-read-result sub-result shared-slice-read-result-2 returns returns-2)
+byte-spec = tie.close (tie.spec (λ c. search needs) (λ c. search needs) (λ c. search needs) returns returns-2)

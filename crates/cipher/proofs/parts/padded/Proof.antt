@@ -20,29 +20,8 @@ Inv-loop a b at n r₀ i₀ r i = (n ≡ length a + length b - at) × (i ≤ n) 
 abbrev μ-loop : tie.MeasureT-loop
 μ-loop a b at n r₀ i₀ r i = n - i
 
-add-n : tie.Need-add-n Inv-loop μ-loop
-add-n c = search needs
-
-sub-n : tie.Need-sub-n Inv-loop μ-loop
-sub-n c = search needs
-
 loop-holds : tie.Need-loop-holds Inv-loop μ-loop
 loop-holds c = (refl, omega arith, refl)
-
-add-byte : tie.Need-add-byte Inv-loop μ-loop
-add-byte c = search needs
-
-byte-requires : tie.Need-byte-requires Inv-loop μ-loop
-byte-requires c κs = search needs
-
-array-write-r : tie.Need-array-write-r Inv-loop μ-loop
-array-write-r c = search needs
-
-add-i : tie.Need-add-i Inv-loop μ-loop
-add-i c = search needs
-
-loop-less : tie.Need-loop-less Inv-loop μ-loop
-loop-less c = search needs
 
 loop-again : tie.Need-loop-again Inv-loop μ-loop
 loop-again c =
@@ -58,9 +37,6 @@ loop-again c =
       part-turn i (padded (drop at m)) _ _ _ (l .loop .inv .2) (omega arith) (omega arith)
           (c .byte .ensures ∙ sym (padded-at (drop at m) i (omega arith) ∙ getD-drop at m i 0)),
     )
-
-array-write-r-2 : tie.Need-array-write-r-2 Inv-loop μ-loop
-array-write-r-2 c = search needs
 
 returns : tie.Need-returns Inv-loop μ-loop
 returns c =
@@ -80,17 +56,5 @@ returns c =
 pub padded-spec : {M : Type 1} → statement M
 padded-spec =
     tie.close
-    (tie.spec
-    Inv-loop
-    μ-loop
-    add-n
-    sub-n
-    loop-holds
-    add-byte
-    byte-requires
-    array-write-r
-    add-i
-    loop-less
-    loop-again
-    array-write-r-2
-    returns)
+    (tie.spec Inv-loop μ-loop (λ c. search needs) (λ c. search needs) loop-holds (λ c. search needs) (λ c κs. search needs)
+    (λ c. search needs) (λ c. search needs) (λ c. search needs) loop-again (λ c. search needs) returns)

@@ -8,26 +8,17 @@ use borrow.Author.Needs.{needs}
 use Rattle.command.proofs.lines.put_count_line.Statement.{statement}
 use Rattle.command.proofs.lines.put_count_line.Tie as tie
 
-slice-aggregate-put-labelled : tie.Need-slice-aggregate-put-labelled
-slice-aggregate-put-labelled c = search needs
-
 put-labelled-requires : tie.Need-put-labelled-requires
 unfolding countLine labelled ascii
 put-labelled-requires c κs =
     let d = c .before .before .before in
     two₁ (d .args .at) (labelled "cards " (d .args .n)) (ascii "\n") (now (d .args .out)) (room-for _ _ _ _ (count-short (d .args .n) (d .fits .n .fits)) (d .pre))
 
-slice-aggregate-put : tie.Need-slice-aggregate-put
-slice-aggregate-put c = search needs
-
 put-requires : tie.Need-put-requires
 unfolding countLine labelled ascii
 put-requires c κs =
     let d = c .before .before .before .before .before .before .before .before in
     two₂ (d .args .at) (labelled "cards " (d .args .n)) (ascii "\n") (now (d .args .out)) (room-for _ _ _ _ (count-short (d .args .n) (d .fits .n .fits)) (d .pre)) (c .before .before .before .before .put-labelled .ensures)
-
-same-length : tie.Need-same-length
-same-length c = search needs
 
 returns : tie.Need-returns
 unfolding countLine labelled ascii
@@ -38,10 +29,4 @@ returns c =
 pub put-count-line-spec : {M : Type 1} → statement M
 put-count-line-spec =
     tie.close
-    (tie.spec
-    slice-aggregate-put-labelled
-    put-labelled-requires
-    slice-aggregate-put
-    put-requires
-    same-length
-    returns)
+    (tie.spec (λ c. search needs) put-labelled-requires (λ c. search needs) put-requires (λ c. search needs) returns)

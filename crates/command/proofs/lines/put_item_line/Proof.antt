@@ -8,17 +8,11 @@ use borrow.Author.Needs.{needs}
 use Rattle.command.proofs.lines.put_item_line.Statement.{statement}
 use Rattle.command.proofs.lines.put_item_line.Tie as tie
 
-slice-aggregate-put-labelled : tie.Need-slice-aggregate-put-labelled
-slice-aggregate-put-labelled c = search needs
-
 put-labelled-requires : tie.Need-put-labelled-requires
 unfolding itemLine labelled ascii
 put-labelled-requires c κs =
     let d = c .before .before .before in
     three₁ (d .args .at) (labelled "card " (d .args .j)) (labelled " bytes " (d .args .long)) (ascii "\n") (now (d .args .out)) (room-for _ _ _ _ (item-short (d .args .j) (d .args .long) (d .fits .j .fits) (d .fits .long .fits)) (d .pre))
-
-slice-aggregate-put-labelled-2 : tie.Need-slice-aggregate-put-labelled-2
-slice-aggregate-put-labelled-2 c = search needs
 
 put-labelled-requires-2 : tie.Need-put-labelled-requires-2
 unfolding itemLine labelled ascii
@@ -26,17 +20,11 @@ put-labelled-requires-2 c κs =
     let d = c .before .before .before .before .before .before .before .before in
     three₂ (d .args .at) (labelled "card " (d .args .j)) (labelled " bytes " (d .args .long)) (ascii "\n") (now (d .args .out)) (room-for _ _ _ _ (item-short (d .args .j) (d .args .long) (d .fits .j .fits) (d .fits .long .fits)) (d .pre)) (c .before .before .before .before .put-labelled .ensures)
 
-slice-aggregate-put : tie.Need-slice-aggregate-put
-slice-aggregate-put c = search needs
-
 put-requires : tie.Need-put-requires
 unfolding itemLine labelled ascii
 put-requires c κs =
     let d = c .before .before .before .before .before .before .before .before .before .before .before .before .before in
     three₃ (d .args .at) (labelled "card " (d .args .j)) (labelled " bytes " (d .args .long)) (ascii "\n") (now (d .args .out)) (room-for _ _ _ _ (item-short (d .args .j) (d .args .long) (d .fits .j .fits) (d .fits .long .fits)) (d .pre)) (c .before .before .before .before .before .before .before .before .before .put-labelled .ensures) (c .before .before .before .before .put-labelled2 .ensures)
-
-same-length : tie.Need-same-length
-same-length c = search needs
 
 returns : tie.Need-returns
 unfolding itemLine labelled ascii
@@ -47,12 +35,5 @@ returns c =
 pub put-item-line-spec : {M : Type 1} → statement M
 put-item-line-spec =
     tie.close
-    (tie.spec
-    slice-aggregate-put-labelled
-    put-labelled-requires
-    slice-aggregate-put-labelled-2
-    put-labelled-requires-2
-    slice-aggregate-put
-    put-requires
-    same-length
-    returns)
+    (tie.spec (λ c. search needs) put-labelled-requires (λ c. search needs) put-labelled-requires-2 (λ c. search needs)
+    put-requires (λ c. search needs) returns)

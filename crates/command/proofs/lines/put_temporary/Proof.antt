@@ -14,26 +14,17 @@ put-requires c κs =
     let d = c .before .before .before in
     three₁ 0 (now (d .args .name)) (labelled "." (d .args .process)) (ascii ".new") (now (d .args .out)) (room-front _ _ _ (temporary-short (now (d .args .name)) (d .args .process) (d .fits .process .fits)) (d .pre))
 
-slice-aggregate-put-labelled : tie.Need-slice-aggregate-put-labelled
-slice-aggregate-put-labelled c = search needs
-
 put-labelled-requires : tie.Need-put-labelled-requires
 unfolding temporaryName labelled ascii
 put-labelled-requires c κs =
     let d = c .before .before .before .before .before .before .before .before in
     three₂ 0 (now (d .args .name)) (labelled "." (d .args .process)) (ascii ".new") (now (d .args .out)) (room-front _ _ _ (temporary-short (now (d .args .name)) (d .args .process) (d .fits .process .fits)) (d .pre)) (c .before .before .before .before .put .ensures)
 
-slice-aggregate-put : tie.Need-slice-aggregate-put
-slice-aggregate-put c = search needs
-
 put-requires-2 : tie.Need-put-requires-2
 unfolding temporaryName labelled ascii
 put-requires-2 c κs =
     let d = c .before .before .before .before .before .before .before .before .before .before .before .before .before in
     three₃ 0 (now (d .args .name)) (labelled "." (d .args .process)) (ascii ".new") (now (d .args .out)) (room-front _ _ _ (temporary-short (now (d .args .name)) (d .args .process) (d .fits .process .fits)) (d .pre)) (c .before .before .before .before .before .before .before .before .before .put .ensures) (c .before .before .before .before .put-labelled .ensures)
-
-same-length : tie.Need-same-length
-same-length c = search needs
 
 returns : tie.Need-returns
 unfolding temporaryName labelled ascii
@@ -45,11 +36,5 @@ returns c =
 pub put-temporary-spec : {M : Type 1} → statement M
 put-temporary-spec =
     tie.close
-    (tie.spec
-    put-requires
-    slice-aggregate-put-labelled
-    put-labelled-requires
-    slice-aggregate-put
-    put-requires-2
-    same-length
+    (tie.spec put-requires (λ c. search needs) put-labelled-requires (λ c. search needs) put-requires-2 (λ c. search needs)
     returns)

@@ -12,15 +12,9 @@ returns-2 : tie.Need-returns-2
 returns-2 c =
     high (c .before .before .args .v) (c .before .before .args .b) (c .if2 .taken)
 
-cast-result : tie.Need-cast-result
-cast-result c = search needs
-
-sub-result : tie.Need-sub-result
-sub-result c = search needs
-
 returns-3 : tie.Need-returns-3
 returns-3 c =
     between (c .before .before .args .v) (c .before .before .args .b) (c .before .if1 .left) (c .if2 .left)
 
 pub fits-spec : {M : Type 1} → statement M
-fits-spec = tie.close (tie.spec returns returns-2 cast-result sub-result returns-3)
+fits-spec = tie.close (tie.spec returns returns-2 (λ c. search needs) (λ c. search needs) returns-3)

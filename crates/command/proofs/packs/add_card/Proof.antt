@@ -5,15 +5,6 @@ use borrow.Author.Needs.{needs}
 use Rattle.command.proofs.packs.add_card.Statement.{statement}
 use Rattle.command.proofs.packs.add_card.Tie as tie
 
-append-requires : tie.Need-append-requires
-append-requires c κs = search needs
-
-placed-requires : tie.Need-placed-requires
-placed-requires c κs = search needs
-
-same-length : tie.Need-same-length
-same-length c = search needs
-
 returns : tie.Need-returns
 returns c =
     let d = c .before .before .before .before .before .before .before .before .before in
@@ -32,9 +23,6 @@ add-t12 c =
     let a = c .before .before .before .before .append in
     omega (arith, size-small (d .args .file .now) (d .args .n) (d .args .card .now) (d .args .k) _ (a .ensures .0) (c .if1 .left))
 
-same-length-2 : tie.Need-same-length-2
-same-length-2 c = search needs
-
 returns-2 : tie.Need-returns-2
 returns-2 c =
     let d = c .before .before .before .before .before .before .before .before in
@@ -45,12 +33,5 @@ returns-2 c =
 pub add-card-spec : {M : Type 1} → statement M
 add-card-spec =
     tie.close
-    (tie.spec
-    append-requires
-    placed-requires
-    same-length
-    returns
-    add-t10
-    add-t12
-    same-length-2
+    (tie.spec (λ c κs. search needs) (λ c κs. search needs) (λ c. search needs) returns add-t10 add-t12 (λ c. search needs)
     returns-2)

@@ -7,15 +7,9 @@ use borrow.Author.Needs.{needs}
 use Rattle.files.proofs.arguments.check_code.Statement.{statement}
 use Rattle.files.proofs.arguments.check_code.Tie as tie
 
-known-requires : tie.Need-known-requires
-known-requires c κs = search needs
-
-unless-requires : tie.Need-unless-requires
-unless-requires c κs = search needs
-
 returns : tie.Need-returns
 unfolding refuse2
 returns c = c .unless .ensures ∙ ap (λ (t : Bool). unless t 2 0) (c .before .known .ensures)
 
 pub check-code-spec : {M : Type 1} → statement M
-check-code-spec = tie.close (tie.spec known-requires unless-requires returns)
+check-code-spec = tie.close (tie.spec (λ c κs. search needs) (λ c κs. search needs) returns)

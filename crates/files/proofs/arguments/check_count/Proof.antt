@@ -9,19 +9,10 @@ use borrow.Author.Needs.{needs}
 use Rattle.files.proofs.arguments.check_count.Statement.{statement}
 use Rattle.files.proofs.arguments.check_count.Tie as tie
 
-items-requires : tie.Need-items-requires
-items-requires c κs = search needs
-
-inside-requires : tie.Need-inside-requires
-inside-requires c κs = search needs
-
-unless-requires : tie.Need-unless-requires
-unless-requires c κs = search needs
-
 returns : tie.Need-returns
 unfolding refuse4
 returns c = c .unless .ensures ∙ ap (λ (t : Bool). unless t 4 0)
     (c .before .inside .ensures ∙ ap (λ (m : ℕ). inside m (c .before .before .before .args .n)) (c .before .before .items .ensures))
 
 pub check-count-spec : {M : Type 1} → statement M
-check-count-spec = tie.close (tie.spec items-requires inside-requires unless-requires returns)
+check-count-spec = tie.close (tie.spec (λ c κs. search needs) (λ c κs. search needs) (λ c κs. search needs) returns)

@@ -4,12 +4,9 @@ use borrow.Author.Needs.{needs}
 use Rattle.files.proofs.arguments.check_keys.Statement.{statement}
 use Rattle.files.proofs.arguments.check_keys.Tie as tie
 
-unless-requires : tie.Need-unless-requires
-unless-requires c κs = search needs
-
 returns : tie.Need-returns
 unfolding refuse1
 returns c = c .unless .ensures
 
 pub check-keys-spec : {M : Type 1} → statement M
-check-keys-spec = tie.close (tie.spec unless-requires returns)
+check-keys-spec = tie.close (tie.spec (λ c κs. search needs) returns)

@@ -7,15 +7,9 @@ use borrow.Author.Needs.{needs}
 use Rattle.files.proofs.arguments.check_number.Statement.{statement}
 use Rattle.files.proofs.arguments.check_number.Tie as tie
 
-inside-requires : tie.Need-inside-requires
-inside-requires c κs = search needs
-
-unless-requires : tie.Need-unless-requires
-unless-requires c κs = search needs
-
 returns : tie.Need-returns
 unfolding refuse8
 returns c = c .unless .ensures ∙ ap (λ (t : Bool). unless t 8 0) (c .before .inside .ensures)
 
 pub check-number-spec : {M : Type 1} → statement M
-check-number-spec = tie.close (tie.spec inside-requires unless-requires returns)
+check-number-spec = tie.close (tie.spec (λ c κs. search needs) (λ c κs. search needs) returns)

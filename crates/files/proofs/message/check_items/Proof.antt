@@ -19,9 +19,6 @@ abbrev μ-loop : tie.MeasureT-loop
 item-count-requires : tie.Need-item-count-requires Inv-loop μ-loop
 item-count-requires c κs = omega (arith, headed _ (c .before .pre))
 
-first-requires : tie.Need-first-requires Inv-loop μ-loop
-first-requires c κs = search needs
-
 loop-holds : tie.Need-loop-holds Inv-loop μ-loop
 unfolding refuseItems behind
 loop-holds c =
@@ -30,18 +27,12 @@ loop-holds c =
     let l = headed (d .args .s .now) (d .pre) in
     (omega arith, omega (arith, l), ap (refuseItems (d .args .s .now)) (e .1), e .0 ∙ ap (behind (d .args .s .now)) (sym (e .1)), l .1)
 
-fits-requires : tie.Need-fits-requires Inv-loop μ-loop
-fits-requires c κs = search needs
-
 next-requires : tie.Need-next-requires Inv-loop μ-loop
 next-requires c κs =
     let l = c .before .before .before .before in
     let s = l .before .before .before .before .args .s .now in
     let f = fits-so s (l .loop .c .at) (sym (c .before .fits2 .ensures) ∙ c .if2 .taken) in
     (f .head, omega (arith, l .before .before .item-count .ensures .1), search needs)
-
-loop-less : tie.Need-loop-less Inv-loop μ-loop
-loop-less c = search needs
 
 loop-again : tie.Need-loop-again Inv-loop μ-loop
 loop-again c =
@@ -58,9 +49,6 @@ loop-again c =
       l .loop .inv .4,
     )
 
-add-t6 : tie.Need-add-t6 Inv-loop μ-loop
-add-t6 c = search needs
-
 returns : tie.Need-returns Inv-loop μ-loop
 returns c =
     let l = c .before .before .before .before .before in
@@ -74,9 +62,6 @@ returns-2 c =
     let s = l .before .before .before .before .args .s .now in
     items-whole s (l .loop .c .passed) (l .loop .c .at) _ (l .loop .inv .2) (l .loop .inv .3) (l .before .before .item-count .ensures .0) (l .loop .inv .0) (omega arith) (c .if3 .taken)
 
-add-t7 : tie.Need-add-t7 Inv-loop μ-loop
-add-t7 c = search needs
-
 returns-3 : tie.Need-returns-3 Inv-loop μ-loop
 returns-3 c =
     let l = c .before .before .before .before in
@@ -86,18 +71,5 @@ returns-3 c =
 pub check-items-spec : {M : Type 1} → statement M
 check-items-spec =
     tie.close
-    (tie.spec
-    Inv-loop
-    μ-loop
-    item-count-requires
-    first-requires
-    loop-holds
-    fits-requires
-    next-requires
-    loop-less
-    loop-again
-    add-t6
-    returns
-    returns-2
-    add-t7
-    returns-3)
+    (tie.spec Inv-loop μ-loop item-count-requires (λ c κs. search needs) loop-holds (λ c κs. search needs) next-requires
+    (λ c. search needs) loop-again (λ c. search needs) returns returns-2 (λ c. search needs) returns-3)

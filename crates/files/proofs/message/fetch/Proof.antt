@@ -7,12 +7,6 @@ use borrow.Author.Needs.{needs}
 use Rattle.files.proofs.message.fetch.Statement.{statement}
 use Rattle.files.proofs.message.fetch.Tie as tie
 
-fetch-refusal-requires : tie.Need-fetch-refusal-requires
-fetch-refusal-requires c κs = search needs
-
-slice-aggregate-result : tie.Need-slice-aggregate-result
-slice-aggregate-result c = search needs
-
 returns : tie.Need-returns
 returns c =
     let d = c .before .before .before .before .before in
@@ -30,21 +24,6 @@ seek-requires c κs =
     let d = q .before .before in
     let f = fetchable (d .args .s .now) (d .args .j) _ (q .fetch-refusal .ensures) (c .if1 .left) in (f .long, f .short, f .whole, omega (arith, f .low, f .high))
 
-add-a : tie.Need-add-a
-add-a c = search needs
-
-number16-requires : tie.Need-number16-requires
-number16-requires c κs = search needs
-
-add-e : tie.Need-add-e
-add-e c = search needs
-
-sub-result : tie.Need-sub-result
-sub-result c = search needs
-
-part-result-start : tie.Need-part-result-start
-part-result-start c = search needs
-
 part-result-end : tie.Need-part-result-end
 part-result-end c = omega (arith, c .before .seek .ensures .1, c .number16 .ensures .0)
 
@@ -59,16 +38,5 @@ returns-2 c =
 pub fetch-spec : {M : Type 1} → statement M
 fetch-spec =
     tie.close
-    (tie.spec
-    fetch-refusal-requires
-    slice-aggregate-result
-    returns
-    sub-seek
-    seek-requires
-    add-a
-    number16-requires
-    add-e
-    sub-result
-    part-result-start
-    part-result-end
-    returns-2)
+    (tie.spec (λ c κs. search needs) (λ c. search needs) returns sub-seek seek-requires (λ c. search needs) (λ c κs. search needs)
+    (λ c. search needs) (λ c. search needs) (λ c. search needs) part-result-end returns-2)

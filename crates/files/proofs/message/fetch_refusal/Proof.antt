@@ -9,5 +9,5 @@ pub fetch-refusal-spec : {M : Type 1} → statement M
 unfolding fetchRefusal
 fetch-refusal-spec =
     tie.close
-    (tie.spec (λ c κs. search needs) (λ c. stop _ _ _ (c .before .before .check-header .ensures) (c .if1 .taken)) (λ c κs. search number-of)
-    (λ c κs. search number-of) (λ c κs. search needs) (λ c. search listed depth 12))
+    (tie.spec (λ c κs. search needs) (λ c. stop _ _ _ (c .before .before .check-header .ensures) (c .if1 .taken))
+    (λ c κs. search number-of) (λ c κs. search number-of) (λ c κs. search needs) (λ c. search listed depth 12))

@@ -8,21 +8,6 @@ use borrow.Author.Needs.{needs}
 use Rattle.files.proofs.message.number16.Statement.{statement}
 use Rattle.files.proofs.message.number16.Tie as tie
 
-shared-slice-read-from-be16 : tie.Need-shared-slice-read-from-be16
-shared-slice-read-from-be16 c = search needs
-
-add-from-be16 : tie.Need-add-from-be16
-add-from-be16 c = search needs
-
-shared-slice-read-from-be16-2 : tie.Need-shared-slice-read-from-be16-2
-shared-slice-read-from-be16-2 c = search needs
-
-from-be16-requires : tie.Need-from-be16-requires
-from-be16-requires c κs = search needs
-
-cast-result : tie.Need-cast-result
-cast-result c = search needs
-
 returns : tie.Need-returns
 unfolding number16
 returns c =
@@ -32,10 +17,4 @@ returns c =
 pub number16-spec : {M : Type 1} → statement M
 number16-spec =
     tie.close
-    (tie.spec
-    shared-slice-read-from-be16
-    add-from-be16
-    shared-slice-read-from-be16-2
-    from-be16-requires
-    cast-result
-    returns)
+    (tie.spec (λ c. search needs) (λ c. search needs) (λ c. search needs) (λ c κs. search needs) (λ c. search needs) returns)

@@ -18,9 +18,6 @@ Inv-loop s k c₀ c = (c .passed ≤ k) × (c .at ≡ behind s (c .passed))
 abbrev μ-loop : tie.MeasureT-loop
 μ-loop s k c₀ c = k - c .passed
 
-first-requires : tie.Need-first-requires Inv-loop μ-loop
-first-requires c κs = search needs
-
 loop-holds : tie.Need-loop-holds Inv-loop μ-loop
 unfolding behind
 loop-holds c =
@@ -34,9 +31,6 @@ next-requires c κs =
     let s = d .args .s .now in
     let f = item-fits s (l .loop .c .passed) (ap (λ (r : Refusal). r .number) (d .pre .2)) (omega arith) in
     (omega (arith, f .head), omega (arith, f .head, behind-low s (l .loop .c .passed)), d .pre .1)
-
-loop-less : tie.Need-loop-less Inv-loop μ-loop
-loop-less c = search needs
 
 loop-again : tie.Need-loop-again Inv-loop μ-loop
 loop-again c =
@@ -59,4 +53,4 @@ returns c =
 pub seek-spec : {M : Type 1} → statement M
 seek-spec =
     tie.close
-    (tie.spec Inv-loop μ-loop first-requires loop-holds next-requires loop-less loop-again returns)
+    (tie.spec Inv-loop μ-loop (λ c κs. search needs) loop-holds next-requires (λ c. search needs) loop-again returns)

@@ -22,5 +22,5 @@ returns c =
 pub check-mac-spec : {M : Type 1} → statement M
 check-mac-spec =
     tie.close
-    (tie.spec (λ c. omega (arith, long c)) (λ c. omega (arith, long c)) (λ c. search needs) (λ c. omega (arith, long c)) (λ c κs. search needs)
-    (λ c κs. omega (arith, long (c .before .before))) (λ c κs. search needs) (λ c κs. search needs) returns)
+    (tie.spec (λ c. omega (arith, long c)) (λ c. omega (arith, long c)) (λ c. search needs) (λ c. omega (arith, long c))
+    (λ c κs. search needs) (λ c κs. omega (arith, long (c .before .before))) (λ c κs. search needs) (λ c κs. search needs) returns)

@@ -4,12 +4,6 @@ use borrow.Author.Needs.{needs}
 use Rattle.files.proofs.tagfile.count_fits.Statement.{statement}
 use Rattle.files.proofs.tagfile.count_fits.Tie as tie
 
-known-requires : tie.Need-known-requires
-known-requires c κs = search needs
-
-items-requires : tie.Need-items-requires
-items-requires c κs = search needs
-
 returns : tie.Need-returns
 returns c =
     let d = c .before .before .before .before in
@@ -26,4 +20,4 @@ returns-3 c =
     fits-unknown (d .args .code) (d .args .n) _ (c .before .known .ensures) (c .if1 .left)
 
 pub count-fits-spec : {M : Type 1} → statement M
-count-fits-spec = tie.close (tie.spec known-requires items-requires returns returns-2 returns-3)
+count-fits-spec = tie.close (tie.spec (λ c κs. search needs) (λ c κs. search needs) returns returns-2 returns-3)

@@ -10,33 +10,6 @@ use borrow.Author.Needs.{needs}
 use Rattle.files.proofs.tagfile.seal.Statement.{statement}
 use Rattle.files.proofs.tagfile.seal.Tie as tie
 
-sub-cmac : tie.Need-sub-cmac
-sub-cmac c = search needs
-
-part-cmac-start : tie.Need-part-cmac-start
-part-cmac-start c = search needs
-
-part-cmac-end : tie.Need-part-cmac-end
-part-cmac-end c = search needs
-
-cmac-requires : tie.Need-cmac-requires
-cmac-requires c κs = search needs
-
-sub-put : tie.Need-sub-put
-sub-put c = search needs
-
-part-put-start : tie.Need-part-put-start
-part-put-start c = search needs
-
-part-put-end : tie.Need-part-put-end
-part-put-end c = search needs
-
-put-requires : tie.Need-put-requires
-put-requires c κs = search needs
-
-same-length : tie.Need-same-length
-same-length c = search needs
-
 returns : tie.Need-returns
 returns c =
     let d = c .before .before .before .before .before .before .before .before in
@@ -50,14 +23,5 @@ returns c =
 pub seal-spec : {M : Type 1} → statement M
 seal-spec =
     tie.close
-    (tie.spec
-    sub-cmac
-    part-cmac-start
-    part-cmac-end
-    cmac-requires
-    sub-put
-    part-put-start
-    part-put-end
-    put-requires
-    same-length
-    returns)
+    (tie.spec (λ c. search needs) (λ c. search needs) (λ c. search needs) (λ c κs. search needs) (λ c. search needs)
+    (λ c. search needs) (λ c. search needs) (λ c κs. search needs) (λ c. search needs) returns)

@@ -4,18 +4,6 @@ use borrow.Author.Needs.{needs}
 use Rattle.fips197.proofs.columns.inv_shift.Statement.{statement}
 use Rattle.fips197.proofs.columns.inv_shift.Tie as tie
 
-gather-requires : tie.Need-gather-requires
-gather-requires c κs = search needs
-
-gather-requires-2 : tie.Need-gather-requires-2
-gather-requires-2 c κs = search needs
-
-gather-requires-3 : tie.Need-gather-requires-3
-gather-requires-3 c κs = search needs
-
-gather-requires-4 : tie.Need-gather-requires-4
-gather-requires-4 c κs = search needs
-
 returns : tie.Need-returns
 returns c =
     let s = c .before .before .before .before .args .s in
@@ -25,4 +13,4 @@ returns c =
 pub inv-shift-spec : {M : Type 1} → statement M
 inv-shift-spec =
     tie.close
-    (tie.spec gather-requires gather-requires-2 gather-requires-3 gather-requires-4 returns)
+    (tie.spec (λ c κs. search needs) (λ c κs. search needs) (λ c κs. search needs) (λ c κs. search needs) returns)

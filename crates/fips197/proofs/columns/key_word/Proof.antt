@@ -6,33 +6,6 @@ use borrow.Author.Needs.{needs}
 use Rattle.fips197.proofs.columns.key_word.Statement.{statement}
 use Rattle.fips197.proofs.columns.key_word.Tie as tie
 
-mul-at : tie.Need-mul-at
-mul-at c = search needs
-
-element-copy-out-from-bytes : tie.Need-element-copy-out-from-bytes
-element-copy-out-from-bytes c = search needs
-
-add-from-bytes : tie.Need-add-from-bytes
-add-from-bytes c = search needs
-
-element-copy-out-from-bytes-2 : tie.Need-element-copy-out-from-bytes-2
-element-copy-out-from-bytes-2 c = search needs
-
-add-from-bytes-2 : tie.Need-add-from-bytes-2
-add-from-bytes-2 c = search needs
-
-element-copy-out-from-bytes-3 : tie.Need-element-copy-out-from-bytes-3
-element-copy-out-from-bytes-3 c = search needs
-
-add-from-bytes-3 : tie.Need-add-from-bytes-3
-add-from-bytes-3 c = search needs
-
-element-copy-out-from-bytes-4 : tie.Need-element-copy-out-from-bytes-4
-element-copy-out-from-bytes-4 c = search needs
-
-from-bytes-requires : tie.Need-from-bytes-requires
-from-bytes-requires c κs = search needs
-
 returns : tie.Need-returns
 returns c =
     let d = c .before .before .before .before .before in
@@ -41,14 +14,5 @@ returns c =
 pub key-word-spec : {M : Type 1} → statement M
 key-word-spec =
     tie.close
-    (tie.spec
-    mul-at
-    element-copy-out-from-bytes
-    add-from-bytes
-    element-copy-out-from-bytes-2
-    add-from-bytes-2
-    element-copy-out-from-bytes-3
-    add-from-bytes-3
-    element-copy-out-from-bytes-4
-    from-bytes-requires
-    returns)
+    (tie.spec (λ c. search needs) (λ c. search needs) (λ c. search needs) (λ c. search needs) (λ c. search needs)
+    (λ c. search needs) (λ c. search needs) (λ c. search needs) (λ c κs. search needs) returns)

@@ -15,12 +15,6 @@ Inv-loop t w₀ i₀ w i = (4 ≤ i) × (i ≤ 44) × (length w ≡ 176) × (tak
 abbrev μ-loop : tie.MeasureT-loop
 μ-loop t w₀ i₀ w i = 44 - i
 
-table-requires : tie.Need-table-requires Inv-loop μ-loop
-table-requires c κs = search needs
-
-begin-requires : tie.Need-begin-requires Inv-loop μ-loop
-begin-requires c κs = search needs
-
 loop-holds : tie.Need-loop-holds Inv-loop μ-loop
 unfolding expanded
 loop-holds c = (omega arith, omega arith, search needs, refl)
@@ -29,12 +23,6 @@ put-word-requires : tie.Need-put-word-requires Inv-loop μ-loop
 put-word-requires c κs =
     let l = c .before .before .before in
     (l .before .before .table .ensures, (omega arith, omega arith, l .loop .inv .2))
-
-add-i : tie.Need-add-i Inv-loop μ-loop
-add-i c = search needs
-
-loop-less : tie.Need-loop-less Inv-loop μ-loop
-loop-less c = search needs
 
 loop-again : tie.Need-loop-again Inv-loop μ-loop
 loop-again c =
@@ -58,14 +46,5 @@ returns c =
 pub expand-spec : {M : Type 1} → statement M
 expand-spec =
     tie.close
-    (tie.spec
-    Inv-loop
-    μ-loop
-    table-requires
-    begin-requires
-    loop-holds
-    put-word-requires
-    add-i
-    loop-less
-    loop-again
-    returns)
+    (tie.spec Inv-loop μ-loop (λ c κs. search needs) (λ c κs. search needs) loop-holds put-word-requires (λ c. search needs)
+    (λ c. search needs) loop-again returns)

@@ -17,20 +17,11 @@ positive : (z : ℤ) → SFits w32 z → ltZ (pos 0) z ≡ true → T (nonNeg z)
 positive (pos n) f h = (tt, fits-natAbs tt f)
 positive (negsuc n) f h = absurd (let z : _≡_ {A = ℕ} 0 1 = cc in omega arith)
 
-getpid-requires : tie.Need-getpid-requires
-getpid-requires c κs = search needs
-
 cast-result : tie.Need-cast-result
 cast-result c =
     let r = c .before .getpid .result in
     let f : SFits w32 r = record { sfits = c .before .getpid .ok } in
     positive (toZ w32 (ofZ w32 r)) (sfits-toZ (fits-ofZ f)) (c .if1 .taken)
 
-returns : tie.Need-returns
-returns c = search needs
-
-returns-2 : tie.Need-returns-2
-returns-2 c = search needs
-
 pub process-spec : {M : Type 1} → statement M
-process-spec = tie.close (tie.spec getpid-requires cast-result returns returns-2)
+process-spec = tie.close (tie.spec (λ c κs. search needs) cast-result (λ c. search needs) (λ c. search needs))

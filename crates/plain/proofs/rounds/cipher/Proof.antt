@@ -17,39 +17,15 @@ Inv-loop t w s₀ n₀ s n = (n ≤ 9) × (stateOf (s .a) (s .b) (s .c) (s .d) �
 abbrev μ-loop : tie.MeasureT-loop
 μ-loop t w s₀ n₀ s n = 9 - n
 
-load-requires : tie.Need-load-requires Inv-loop μ-loop
-load-requires c κs = search needs
-
-add-round-key-requires : tie.Need-add-round-key-requires Inv-loop μ-loop
-add-round-key-requires c κs = search needs
-
 loop-holds : tie.Need-loop-holds Inv-loop μ-loop
 unfolding rounds
 loop-holds c = (omega arith, refl)
-
-add-n : tie.Need-add-n Inv-loop μ-loop
-add-n c = search needs
-
-round-requires : tie.Need-round-requires Inv-loop μ-loop
-round-requires c κs = search needs
-
-loop-less : tie.Need-loop-less Inv-loop μ-loop
-loop-less c = search needs
 
 loop-again : tie.Need-loop-again Inv-loop μ-loop
 loop-again c =
     let l = c .before .before in
     let w = l .before .before .before .args .w .now in
     (omega arith, c .round .ensures ∙ rounds-more w (l .loop .n) _ _ (l .loop .inv .1))
-
-shift-requires : tie.Need-shift-requires Inv-loop μ-loop
-shift-requires c κs = search needs
-
-add-round-key-requires-2 : tie.Need-add-round-key-requires-2 Inv-loop μ-loop
-add-round-key-requires-2 c κs = search needs
-
-store-requires : tie.Need-store-requires Inv-loop μ-loop
-store-requires c κs = search needs
 
 returns : tie.Need-returns Inv-loop μ-loop
 unfolding cipher subBytes
@@ -68,17 +44,5 @@ returns c =
 pub cipher-spec : {M : Type 1} → statement M
 cipher-spec =
     tie.close
-    (tie.spec
-    Inv-loop
-    μ-loop
-    load-requires
-    add-round-key-requires
-    loop-holds
-    add-n
-    round-requires
-    loop-less
-    loop-again
-    shift-requires
-    add-round-key-requires-2
-    store-requires
-    returns)
+    (tie.spec Inv-loop μ-loop (λ c κs. search needs) (λ c κs. search needs) loop-holds (λ c. search needs) (λ c κs. search needs)
+    (λ c. search needs) loop-again (λ c κs. search needs) (λ c κs. search needs) (λ c κs. search needs) returns)

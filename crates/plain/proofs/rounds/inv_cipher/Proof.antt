@@ -17,38 +17,14 @@ Inv-loop t w s₀ n₀ s n = (n ≤ 9) × (invRounds w n (stateOf (s .a) (s .b) 
 abbrev μ-loop : tie.MeasureT-loop
 μ-loop t w s₀ n₀ s n = n
 
-load-requires : tie.Need-load-requires Inv-loop μ-loop
-load-requires c κs = search needs
-
-add-round-key-requires : tie.Need-add-round-key-requires Inv-loop μ-loop
-add-round-key-requires c κs = search needs
-
 loop-holds : tie.Need-loop-holds Inv-loop μ-loop
 loop-holds c = (omega arith, refl)
-
-inv-round-requires : tie.Need-inv-round-requires Inv-loop μ-loop
-inv-round-requires c κs = search needs
-
-sub-n : tie.Need-sub-n Inv-loop μ-loop
-sub-n c = search needs
-
-loop-less : tie.Need-loop-less Inv-loop μ-loop
-loop-less c = search needs
 
 loop-again : tie.Need-loop-again Inv-loop μ-loop
 loop-again c =
     let l = c .before .before in
     let w = l .before .before .before .args .w .now in
     (omega arith, invRounds-less w (l .loop .n) _ _ (c .before .loop-test .taken) (c .inv-round .ensures) ∙ l .loop .inv .1)
-
-inv-shift-requires : tie.Need-inv-shift-requires Inv-loop μ-loop
-inv-shift-requires c κs = search needs
-
-add-round-key-requires-2 : tie.Need-add-round-key-requires-2 Inv-loop μ-loop
-add-round-key-requires-2 c κs = search needs
-
-store-requires : tie.Need-store-requires Inv-loop μ-loop
-store-requires c κs = search needs
 
 returns : tie.Need-returns Inv-loop μ-loop
 unfolding invCipher invSubBytes invRounds
@@ -68,17 +44,5 @@ returns c =
 pub inv-cipher-spec : {M : Type 1} → statement M
 inv-cipher-spec =
     tie.close
-    (tie.spec
-    Inv-loop
-    μ-loop
-    load-requires
-    add-round-key-requires
-    loop-holds
-    inv-round-requires
-    sub-n
-    loop-less
-    loop-again
-    inv-shift-requires
-    add-round-key-requires-2
-    store-requires
-    returns)
+    (tie.spec Inv-loop μ-loop (λ c κs. search needs) (λ c κs. search needs) loop-holds (λ c κs. search needs) (λ c. search needs)
+    (λ c. search needs) loop-again (λ c κs. search needs) (λ c κs. search needs) (λ c κs. search needs) returns)

@@ -5,18 +5,6 @@ use borrow.Author.Needs.{needs}
 use Rattle.plain.proofs.rounds.inv_mix_columns.Statement.{statement}
 use Rattle.plain.proofs.rounds.inv_mix_columns.Tie as tie
 
-inv-mix-requires : tie.Need-inv-mix-requires
-inv-mix-requires c κs = search needs
-
-inv-mix-requires-2 : tie.Need-inv-mix-requires-2
-inv-mix-requires-2 c κs = search needs
-
-inv-mix-requires-3 : tie.Need-inv-mix-requires-3
-inv-mix-requires-3 c κs = search needs
-
-inv-mix-requires-4 : tie.Need-inv-mix-requires-4
-inv-mix-requires-4 c κs = search needs
-
 returns : tie.Need-returns
 unfolding invMixColumns
 returns c =
@@ -27,4 +15,4 @@ returns c =
 pub inv-mix-columns-spec : {M : Type 1} → statement M
 inv-mix-columns-spec =
     tie.close
-    (tie.spec inv-mix-requires inv-mix-requires-2 inv-mix-requires-3 inv-mix-requires-4 returns)
+    (tie.spec (λ c κs. search needs) (λ c κs. search needs) (λ c κs. search needs) (λ c κs. search needs) returns)

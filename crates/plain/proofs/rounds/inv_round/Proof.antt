@@ -8,15 +8,6 @@ use borrow.Author.Needs.{needs}
 use Rattle.plain.proofs.rounds.inv_round.Statement.{statement}
 use Rattle.plain.proofs.rounds.inv_round.Tie as tie
 
-inv-shift-requires : tie.Need-inv-shift-requires
-inv-shift-requires c κs = search needs
-
-add-round-key-requires : tie.Need-add-round-key-requires
-add-round-key-requires c κs = search needs
-
-inv-mix-columns-requires : tie.Need-inv-mix-columns-requires
-inv-mix-columns-requires c κs = search needs
-
 returns : tie.Need-returns
 unfolding invSubBytes
 returns c =
@@ -26,5 +17,4 @@ returns c =
     ∙ ap (λ (s : List ℕ). s ⊕ roundKey (d .args .w .now) (d .args .n)) (c .before .before .inv-shift .ensures invSbox (d .pre .0)))
 
 pub inv-round-spec : {M : Type 1} → statement M
-inv-round-spec =
-    tie.close (tie.spec inv-shift-requires add-round-key-requires inv-mix-columns-requires returns)
+inv-round-spec = tie.close (tie.spec (λ c κs. search needs) (λ c κs. search needs) (λ c κs. search needs) returns)

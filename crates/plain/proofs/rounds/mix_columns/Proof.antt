@@ -5,18 +5,6 @@ use borrow.Author.Needs.{needs}
 use Rattle.plain.proofs.rounds.mix_columns.Statement.{statement}
 use Rattle.plain.proofs.rounds.mix_columns.Tie as tie
 
-mix-requires : tie.Need-mix-requires
-mix-requires c κs = search needs
-
-mix-requires-2 : tie.Need-mix-requires-2
-mix-requires-2 c κs = search needs
-
-mix-requires-3 : tie.Need-mix-requires-3
-mix-requires-3 c κs = search needs
-
-mix-requires-4 : tie.Need-mix-requires-4
-mix-requires-4 c κs = search needs
-
 returns : tie.Need-returns
 unfolding mixColumns
 returns c =
@@ -26,4 +14,5 @@ returns c =
 
 pub mix-columns-spec : {M : Type 1} → statement M
 mix-columns-spec =
-    tie.close (tie.spec mix-requires mix-requires-2 mix-requires-3 mix-requires-4 returns)
+    tie.close
+    (tie.spec (λ c κs. search needs) (λ c κs. search needs) (λ c κs. search needs) (λ c κs. search needs) returns)

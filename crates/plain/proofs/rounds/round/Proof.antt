@@ -8,15 +8,6 @@ use borrow.Author.Needs.{needs}
 use Rattle.plain.proofs.rounds.round.Statement.{statement}
 use Rattle.plain.proofs.rounds.round.Tie as tie
 
-shift-requires : tie.Need-shift-requires
-shift-requires c κs = search needs
-
-mix-columns-requires : tie.Need-mix-columns-requires
-mix-columns-requires c κs = search needs
-
-add-round-key-requires : tie.Need-add-round-key-requires
-add-round-key-requires c κs = search needs
-
 returns : tie.Need-returns
 unfolding subBytes
 returns c =
@@ -26,5 +17,4 @@ returns c =
     (c .before .mix-columns .ensures ∙ ap mixColumns (c .before .before .shift .ensures sbox (d .pre .0)))
 
 pub round-spec : {M : Type 1} → statement M
-round-spec =
-    tie.close (tie.spec shift-requires mix-columns-requires add-round-key-requires returns)
+round-spec = tie.close (tie.spec (λ c κs. search needs) (λ c κs. search needs) (λ c κs. search needs) returns)

@@ -4,12 +4,9 @@ use borrow.Author.Needs.{needs}
 use Rattle.session.proofs.Session.check_all.Statement.{statement}
 use Rattle.session.proofs.Session.check_all.Tie as tie
 
-unless-requires : tie.Need-unless-requires
-unless-requires c κs = search needs
-
 returns : tie.Need-returns
 unfolding refuse23
 returns c = c .unless .ensures
 
 pub check-all-spec : {M : Type 1} → statement M
-check-all-spec = tie.close (tie.spec unless-requires returns)
+check-all-spec = tie.close (tie.spec (λ c κs. search needs) returns)

@@ -4,12 +4,9 @@ use borrow.Author.Needs.{needs}
 use Rattle.session.proofs.Session.check_more.Statement.{statement}
 use Rattle.session.proofs.Session.check_more.Tie as tie
 
-unless-requires : tie.Need-unless-requires
-unless-requires c κs = search needs
-
 returns : tie.Need-returns
 unfolding refuse22
 returns c = c .unless .ensures
 
 pub check-more-spec : {M : Type 1} → statement M
-check-more-spec = tie.close (tie.spec unless-requires returns)
+check-more-spec = tie.close (tie.spec (λ c κs. search needs) returns)

@@ -7,15 +7,9 @@ use borrow.Author.Needs.{needs}
 use Rattle.session.proofs.Session.check_open.Statement.{statement}
 use Rattle.session.proofs.Session.check_open.Tie as tie
 
-is-open-requires : tie.Need-is-open-requires
-is-open-requires c κs = search needs
-
-unless-requires : tie.Need-unless-requires
-unless-requires c κs = search needs
-
 returns : tie.Need-returns
 unfolding refuse24
 returns c = c .unless .ensures ∙ ap (λ (t : Bool). unless t 24 0) (c .before .is-open .ensures)
 
 pub check-open-spec : {M : Type 1} → statement M
-check-open-spec = tie.close (tie.spec is-open-requires unless-requires returns)
+check-open-spec = tie.close (tie.spec (λ c κs. search needs) (λ c κs. search needs) returns)

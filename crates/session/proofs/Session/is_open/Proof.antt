@@ -8,9 +8,6 @@ use borrow.Author.Needs.{needs}
 use Rattle.session.proofs.Session.is_open.Statement.{statement}
 use Rattle.session.proofs.Session.is_open.Tie as tie
 
-count-fits-requires : tie.Need-count-fits-requires
-count-fits-requires c κs = search needs
-
 returns : tie.Need-returns
 unfolding isOpen
 returns c =
@@ -24,4 +21,4 @@ returns-2 c =
     c .if1 .left ∙ sym (and-false-l _ (leb (s .taken) (s .count)) (sym (c .before .count-fits .ensures) ∙ c .if1 .left))
 
 pub is-open-spec : {M : Type 1} → statement M
-is-open-spec = tie.close (tie.spec count-fits-requires returns returns-2)
+is-open-spec = tie.close (tie.spec (λ c κs. search needs) returns returns-2)

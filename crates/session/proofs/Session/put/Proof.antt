@@ -7,9 +7,6 @@ use borrow.Author.Needs.{needs}
 use Rattle.session.proofs.Session.put.Statement.{statement}
 use Rattle.session.proofs.Session.put.Tie as tie
 
-put-refusal-requires : tie.Need-put-refusal-requires
-put-refusal-requires c κs = search needs
-
 returns : tie.Need-returns
 unfolding putGives
 returns c =
@@ -35,4 +32,4 @@ returns-2 c =
     (q .put-refusal .ensures, c .with-item .ensures ∙ given _ (putRefusal s i) (q .put-refusal .ensures) (withItem s i) s (c .before .if1 .left))
 
 pub put-spec : {M : Type 1} → statement M
-put-spec = tie.close (tie.spec put-refusal-requires returns with-item-requires returns-2)
+put-spec = tie.close (tie.spec (λ c κs. search needs) returns with-item-requires returns-2)

@@ -7,4 +7,7 @@ use Rattle.session.proofs.Session.put_refusal.Tie as tie
 
 pub put-refusal-spec : {M : Type 1} → statement M
 unfolding putRefusal
-put-refusal-spec = tie.close (tie.spec (λ c κs. search needs) (λ c κs. search needs) (λ c κs. search needs) (λ c κs. search needs) (λ c. search listed depth 12))
+put-refusal-spec =
+    tie.close
+    (tie.spec (λ c κs. search needs) (λ c κs. search needs) (λ c κs. search needs) (λ c κs. search needs)
+    (λ c. search listed depth 12))

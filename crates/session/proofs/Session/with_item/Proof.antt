@@ -9,15 +9,6 @@ use borrow.Author.Needs.{needs}
 use Rattle.session.proofs.Session.with_item.Statement.{statement}
 use Rattle.session.proofs.Session.with_item.Tie as tie
 
-add-j : tie.Need-add-j
-add-j c = search needs
-
-prepare-requires : tie.Need-prepare-requires
-prepare-requires c κs = search needs
-
-slice-aggregate-add-item : tie.Need-slice-aggregate-add-item
-slice-aggregate-add-item c = search needs
-
 add-item-requires : tie.Need-add-item-requires
 add-item-requires c κs =
     let d = c .before .before .before .before .before .before .before in
@@ -35,4 +26,4 @@ returns c =
     (added-is (s .code) _ _ (s .sums) _ h (added-ready (s .code) (s .taken + 1) (s .keys .item) _ (d .args .item .now) _ _ (p .prepare .ensures) (c .before .add-item .ensures)))
 
 pub with-item-spec : {M : Type 1} → statement M
-with-item-spec = tie.close (tie.spec add-j prepare-requires slice-aggregate-add-item add-item-requires returns)
+with-item-spec = tie.close (tie.spec (λ c. search needs) (λ c κs. search needs) (λ c. search needs) add-item-requires returns)

@@ -8,9 +8,6 @@ use borrow.Author.Needs.{needs}
 use Rattle.tables.proofs.keys.decipher_word.Statement.{statement}
 use Rattle.tables.proofs.keys.decipher_word.Tie as tie
 
-key-word-requires : tie.Need-key-word-requires
-key-word-requires c κs = search needs
-
 returns : tie.Need-returns
 returns c =
     let d = c .before .before .args in
@@ -21,9 +18,6 @@ returns-2 c =
     let d = c .before .before .before .args in
     c .before .before .key-word .ensures ∙ sym (decipher-above (d .w .now) (d .i) (omega arith))
 
-inv-mix-requires : tie.Need-inv-mix-requires
-inv-mix-requires c κs = search needs
-
 returns-3 : tie.Need-returns-3
 returns-3 c =
     let d = c .before .before .before .before .args in
@@ -31,5 +25,4 @@ returns-3 c =
     ∙ sym (decipher-inside (d .w .now) (d .i) (omega arith) (omega arith))
 
 pub decipher-word-spec : {M : Type 1} → statement M
-decipher-word-spec =
-    tie.close (tie.spec key-word-requires returns returns-2 inv-mix-requires returns-3)
+decipher-word-spec = tie.close (tie.spec (λ c κs. search needs) returns returns-2 (λ c κs. search needs) returns-3)

@@ -17,27 +17,9 @@ Inv-loop t last w s₀ n₀ s n = (n ≤ 9) × (stateOf (s .a) (s .b) (s .c) (s 
 abbrev μ-loop : tie.MeasureT-loop
 μ-loop t last w s₀ n₀ s n = 9 - n
 
-load-requires : tie.Need-load-requires Inv-loop μ-loop
-load-requires c κs = search needs
-
-add-round-key-requires : tie.Need-add-round-key-requires Inv-loop μ-loop
-add-round-key-requires c κs = search needs
-
 loop-holds : tie.Need-loop-holds Inv-loop μ-loop
 unfolding rounds
 loop-holds c = (omega arith, refl)
-
-add-n : tie.Need-add-n Inv-loop μ-loop
-add-n c = search needs
-
-mix-requires : tie.Need-mix-requires Inv-loop μ-loop
-mix-requires c κs = search needs
-
-add-round-key-requires-2 : tie.Need-add-round-key-requires-2 Inv-loop μ-loop
-add-round-key-requires-2 c κs = search needs
-
-loop-less : tie.Need-loop-less Inv-loop μ-loop
-loop-less c = search needs
 
 loop-again : tie.Need-loop-again Inv-loop μ-loop
 loop-again c =
@@ -47,15 +29,6 @@ loop-again c =
       omega arith,
       c .add-round-key2 .ensures ∙ ap (λ (s : List ℕ). s ⊕ roundKey w (n + 1)) (c .before .mix .ensures) ∙ rounds-more w n _ _ (l .loop .inv .1),
     )
-
-shift-requires : tie.Need-shift-requires Inv-loop μ-loop
-shift-requires c κs = search needs
-
-add-round-key-requires-3 : tie.Need-add-round-key-requires-3 Inv-loop μ-loop
-add-round-key-requires-3 c κs = search needs
-
-store-requires : tie.Need-store-requires Inv-loop μ-loop
-store-requires c κs = search needs
 
 returns : tie.Need-returns Inv-loop μ-loop
 unfolding cipher subBytes
@@ -74,18 +47,6 @@ returns c =
 pub cipher-spec : {M : Type 1} → statement M
 cipher-spec =
     tie.close
-    (tie.spec
-    Inv-loop
-    μ-loop
-    load-requires
-    add-round-key-requires
-    loop-holds
-    add-n
-    mix-requires
-    add-round-key-requires-2
-    loop-less
-    loop-again
-    shift-requires
-    add-round-key-requires-3
-    store-requires
+    (tie.spec Inv-loop μ-loop (λ c κs. search needs) (λ c κs. search needs) loop-holds (λ c. search needs) (λ c κs. search needs)
+    (λ c κs. search needs) (λ c. search needs) loop-again (λ c κs. search needs) (λ c κs. search needs) (λ c κs. search needs)
     returns)

@@ -22,26 +22,8 @@ Inv-loop t last k s₀ n₀ s n =
 abbrev μ-loop : tie.MeasureT-loop
 μ-loop t last k s₀ n₀ s n = n
 
-load-requires : tie.Need-load-requires Inv-loop μ-loop
-load-requires c κs = search needs
-
-add-words-requires : tie.Need-add-words-requires Inv-loop μ-loop
-add-words-requires c κs = search needs
-
 loop-holds : tie.Need-loop-holds Inv-loop μ-loop
 loop-holds c = (omega arith, λ w h e. refl)
-
-inv-mix-requires : tie.Need-inv-mix-requires Inv-loop μ-loop
-inv-mix-requires c κs = search needs
-
-add-words-requires-2 : tie.Need-add-words-requires-2 Inv-loop μ-loop
-add-words-requires-2 c κs = search needs
-
-sub-n : tie.Need-sub-n Inv-loop μ-loop
-sub-n c = search needs
-
-loop-less : tie.Need-loop-less Inv-loop μ-loop
-loop-less c = search needs
 
 loop-again : tie.Need-loop-again Inv-loop μ-loop
 loop-again c =
@@ -53,15 +35,6 @@ loop-again c =
           (c .add-words2 .ensures w e ∙ mixed-back w n (stateOf (s .a) (s .b) (s .c) (s .d)) _ h (omega arith) (omega arith) (c .before .inv-mix .ensures))
           ∙ l .loop .inv .1 w h e,
     )
-
-inv-shift-requires : tie.Need-inv-shift-requires Inv-loop μ-loop
-inv-shift-requires c κs = search needs
-
-add-words-requires-3 : tie.Need-add-words-requires-3 Inv-loop μ-loop
-add-words-requires-3 c κs = search needs
-
-store-requires : tie.Need-store-requires Inv-loop μ-loop
-store-requires c κs = search needs
 
 returns : tie.Need-returns Inv-loop μ-loop
 unfolding invCipher invSubBytes invRounds
@@ -80,18 +53,6 @@ returns c =
 pub inv-cipher-spec : {M : Type 1} → statement M
 inv-cipher-spec =
     tie.close
-    (tie.spec
-    Inv-loop
-    μ-loop
-    load-requires
-    add-words-requires
-    loop-holds
-    inv-mix-requires
-    add-words-requires-2
-    sub-n
-    loop-less
-    loop-again
-    inv-shift-requires
-    add-words-requires-3
-    store-requires
-    returns)
+    (tie.spec Inv-loop μ-loop (λ c κs. search needs) (λ c κs. search needs) loop-holds (λ c κs. search needs)
+    (λ c κs. search needs) (λ c. search needs) (λ c. search needs) loop-again (λ c κs. search needs) (λ c κs. search needs)
+    (λ c κs. search needs) returns)

@@ -8,18 +8,6 @@ use borrow.Author.Needs.{needs}
 use Rattle.tables.proofs.rounds.inv_mix.Statement.{statement}
 use Rattle.tables.proofs.rounds.inv_mix.Tie as tie
 
-joined-requires : tie.Need-joined-requires
-joined-requires c κs = search needs
-
-joined-requires-2 : tie.Need-joined-requires-2
-joined-requires-2 c κs = search needs
-
-joined-requires-3 : tie.Need-joined-requires-3
-joined-requires-3 c κs = search needs
-
-joined-requires-4 : tie.Need-joined-requires-4
-joined-requires-4 c κs = search needs
-
 returns : tie.Need-returns
 unfolding invMixColumns invSubBytes invRoundEntry
 returns c =
@@ -36,4 +24,4 @@ returns c =
 pub inv-mix-spec : {M : Type 1} → statement M
 inv-mix-spec =
     tie.close
-    (tie.spec joined-requires joined-requires-2 joined-requires-3 joined-requires-4 returns)
+    (tie.spec (λ c κs. search needs) (λ c κs. search needs) (λ c κs. search needs) (λ c κs. search needs) returns)

@@ -10,26 +10,14 @@ use borrow.Author.Needs.{needs}
 use Rattle.files.proofs.message.Cursor.fits.Statement.{statement}
 use Rattle.files.proofs.message.Cursor.fits.Tie as tie
 
-add-if1 : tie.Need-add-if1
-add-if1 c = search needs
-
 returns : tie.Need-returns
 returns c = fits-not-length (c .before .before .args .s .now) (c .before .before .args .self .at) (c .if1 .taken)
-
-number16-requires : tie.Need-number16-requires
-number16-requires c κs = search needs
 
 returns-2 : tie.Need-returns-2
 returns-2 c =
     let d = c .before .before .before .before in
     let n = c .before .number16 .ensures .0 in
     fits-not-size (d .args .s .now) (d .args .self .at) (omega arith)
-
-add-result : tie.Need-add-result
-add-result c = search needs
-
-add-result-2 : tie.Need-add-result-2
-add-result-2 c = search needs
 
 returns-3 : tie.Need-returns-3
 returns-3 c =
@@ -42,4 +30,4 @@ returns-3 c =
 pub fits-spec : {M : Type 1} → statement M
 fits-spec =
     tie.close
-    (tie.spec add-if1 returns number16-requires returns-2 add-result add-result-2 returns-3)
+    (tie.spec (λ c. search needs) returns (λ c κs. search needs) returns-2 (λ c. search needs) (λ c. search needs) returns-3)
