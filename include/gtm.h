@@ -45,20 +45,20 @@ extern "C" {
 #define GTM_CARDS_MAX 273
 
 /* Writes the sheet of a shelf. */
-uint64_t gtm_tag(const uint8_t *keys, size_t keys_len, uint64_t size, const uint8_t *message, size_t message_len, uint8_t *tagfile,
-                 size_t tagfile_len);
+uint64_t gtm_tag(const uint8_t *keys, size_t keys_len, uint64_t size, const uint8_t *shelf, size_t shelf_len, uint8_t *sheet,
+                 size_t sheet_len);
 
 /* Whether the shelf is as its sheet says: gtm_yes() of the result. */
-uint64_t gtm_verify(const uint8_t *keys, size_t keys_len, const uint8_t *message, size_t message_len, const uint8_t *tagfile,
-                    size_t tagfile_len);
+uint64_t gtm_verify(const uint8_t *keys, size_t keys_len, const uint8_t *shelf, size_t shelf_len, const uint8_t *sheet,
+                    size_t sheet_len);
 
 /* Which cards were altered: writes a byte for each card of the shelf, 1 named and 0 cleared. gtm_answer(), gtm_named() and gtm_rows() of the
  * result are the answer, the number of cards named and the number of rows that disagree. */
-uint64_t gtm_report(const uint8_t *keys, size_t keys_len, const uint8_t *message, size_t message_len, const uint8_t *tagfile,
-                    size_t tagfile_len, uint8_t *marks, size_t marks_len);
+uint64_t gtm_report(const uint8_t *keys, size_t keys_len, const uint8_t *shelf, size_t shelf_len, const uint8_t *sheet,
+                    size_t sheet_len, uint8_t *marks, size_t marks_len);
 
 /* Writes the sheet for the shelf with one card replaced. The old card has to be the one that was tagged: another goes unnoticed. */
-uint64_t gtm_replace(const uint8_t *keys, size_t keys_len, const uint8_t *tagfile, size_t tagfile_len, uint64_t number, const uint8_t *old_card,
+uint64_t gtm_replace(const uint8_t *keys, size_t keys_len, const uint8_t *sheet, size_t sheet_len, uint64_t number, const uint8_t *old_card,
                      size_t old_len, const uint8_t *new_card, size_t new_len, uint8_t *out, size_t out_len);
 
 /* What a result says. */

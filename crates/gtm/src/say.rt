@@ -19,28 +19,28 @@ pub fn result(text: &[u8]) -> bool {
 pub fn usage(fd: i32) {
     io::write_all(
         fd,
-        b"gtm pack OUT FILE..                       a message file from card files\n",
+        b"gtm pack OUT FILE..                       a shelf from card files\n",
     );
     io::write_all(
         fd,
-        b"gtm tag KEYS SIZE MESSAGE OUT             the tag file of a message; SIZE is 1 to 4\n",
+        b"gtm tag KEYS SIZE SHELF OUT               the sheet of a shelf; SIZE is 1 to 4\n",
     );
-    io::write_all(fd, b"gtm verify KEYS MESSAGE TAGS              yes or no\n");
+    io::write_all(fd, b"gtm verify KEYS SHELF SHEET               yes or no\n");
     io::write_all(
         fd,
-        b"gtm report KEYS MESSAGE TAGS              which cards were altered\n",
-    );
-    io::write_all(
-        fd,
-        b"gtm replace KEYS TAGS NUMBER OLD NEW OUT  a tag file with one card replaced\n",
+        b"gtm report KEYS SHELF SHEET               which cards were altered\n",
     );
     io::write_all(
         fd,
-        b"gtm fetch MESSAGE NUMBER                  one card's bytes\n",
+        b"gtm replace KEYS SHEET NUMBER OLD NEW OUT a sheet with one card replaced\n",
     );
     io::write_all(
         fd,
-        b"gtm list MESSAGE                          the cards and their lengths\n",
+        b"gtm fetch SHELF NUMBER                    one card's bytes\n",
+    );
+    io::write_all(
+        fd,
+        b"gtm list SHELF                            the cards and their lengths\n",
     );
     io::write_all(fd, b"gtm help                                  this text\n");
 }
@@ -76,9 +76,9 @@ fn of_message(number: u8) {
         1 => err(b"the key file does not have 48 bytes\n"),
         2 => err(b"the size is not 1, 2, 3 or 4\n"),
         3 => err(
-            b"the message has under 7 or over 65,536 bytes (a place: with that card file), or does not begin as a message file of version 1\n",
+            b"the shelf has under 7 or over 65,536 bytes (a place: with that card file), or does not begin as a shelf of version 1\n",
         ),
-        4 => err(b"the message has no card, or more cards than the size allows\n"),
+        4 => err(b"the shelf has no card, or more cards than the size allows\n"),
         _ => err(
             b"a card's length is above 1,024, a card runs past the end, or bytes are left over: see the card at that place\n",
         ),
@@ -88,12 +88,12 @@ fn of_message(number: u8) {
 fn of_tags(number: u8) {
     match number {
         6 => err(
-            b"the tag file has a wrong length, wrong letters, version or size, or a count that its size does not allow\n",
+            b"the sheet has a wrong length, wrong letters, version or size, or a count that its size does not allow\n",
         ),
         7 => err(b"the output is longer than the room for it\n"),
-        8 => err(b"the message has no card of that number\n"),
+        8 => err(b"there is no card of that number\n"),
         9 => err(b"a card file has over 1,024 bytes (the place: which one)\n"),
-        20 => err(b"the tag file was altered, or was made with other keys\n"),
-        _ => err(b"the message and the tag file have different numbers of cards\n"),
+        20 => err(b"the sheet was altered, or was made with other keys\n"),
+        _ => err(b"the shelf and the sheet have different numbers of cards\n"),
     }
 }
