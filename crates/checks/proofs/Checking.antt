@@ -15,7 +15,8 @@ use Rattle.files.specs.Refusals.{first}
 use Rattle.files.specs.Message.{itemCount, refuse3, refuse5, refuse8, Sound}
 use Rattle.files.specs.TagFile.{fileSize, codeOf, countOf, countFits, refuse6, Formed}
 use Rattle.files.specs.Arguments.{refuse1, refuse2, refuse4, refuse7}
-use Rattle.files.proofs.Passing.{rest-passes, unless-passes, number-of, and-left, and-right}
+use Rattle.incidence.proofs.Booleans.{and-left, and-right}
+use Rattle.files.proofs.Passing.{rest-passes, unless-passes, number-of}
 use Rattle.files.proofs.Messages.{plain3, plain5, headed}
 use Rattle.files.proofs.Accepted.{formed}
 use Rattle.tagging.specs.Tagging.{keysIn}

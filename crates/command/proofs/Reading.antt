@@ -10,7 +10,7 @@ use lib.ListN.{length, getD, drop, length-append, drop-of-length-le}
 use lib.Seq.{drop-cons}
 use borrow.Author.Tests.{leb-true, leb-false, le-leb, lt-leb, ltb-true, ltb-false, lt-ltb, le-ltb, eqb-true, eqb-false}
 use Rattle.cipher.specs.Block.{if_then_else_}
-use Rattle.files.proofs.Passing.{and-left, and-right, and-true, and-false-l, and-false-r}
+use Rattle.incidence.proofs.Booleans.{and-left, and-right, and-both, and-false-l, and-false-r}
 use Rattle.printing.specs.Text.{decimal}
 use Rattle.printing.proofs.Decimals.{before, decimal-last}
 use Rattle.command.specs.declared.numbers.Parsed.{Parsed}
@@ -43,13 +43,13 @@ unfolding isDigit withDigit
 between v b l h = go (leb v ((2 ^ 64 - 1 - (b - 48)) / 10)) refl
   where
     digit : (leb 48 b && leb b 57) ≡ true
-    digit = and-true _ _ (le-leb 48 b l) (le-leb b 57 h)
+    digit = and-both (le-leb 48 b l) (le-leb b 57 h)
 
     go : (t : Bool) → leb v ((2 ^ 64 - 1 - (b - 48)) / 10) ≡ t → t ≡ ((leb 48 b && leb b 57) && ltb (10 * v + (b - 48)) (2 ^ 64))
     go true e =
         let p = leb-true v ((2 ^ 64 - 1 - (b - 48)) / 10) e in
         let q : 10 * v + (b - 48) < 2 ^ 64 = omega arith in
-        sym (and-true _ _ digit (lt-ltb (10 * v + (b - 48)) (2 ^ 64) q))
+        sym (and-both digit (lt-ltb (10 * v + (b - 48)) (2 ^ 64) q))
     go false e =
         let p = leb-false v ((2 ^ 64 - 1 - (b - 48)) / 10) e in
         let q : 2 ^ 64 ≤ 10 * v + (b - 48) = omega arith in
@@ -147,7 +147,7 @@ reading-done s v i so h =
         → ltb (withDigits 0 s) (2 ^ 64) ≡ true → (t : Bool) → ltb 0 i ≡ t → record { ok = t; value = v } ≡ parsedNumber s
     go s v i so e n d b true q =
         let l : ltb 0 (length s) ≡ true = ap (ltb 0) (sym e) ∙ q in
-        let a : isNumber s ≡ true = and-true _ _ (and-true _ _ l d) b in
+        let a : isNumber s ≡ true = and-both (and-both l d) b in
         sym (ap (λ (t : Bool). if t then record { ok = true; value = withDigits 0 s } else none) a ∙ ap (λ (x : ℕ). record { ok = true; value = x }) n)
     go [] v i so e n d b false q = ap (λ (x : ℕ). record { ok = false; value = x }) (sym n)
     go (x ∷ s) v i so e n d b false q = let l = ltb-false 0 i q in absurd (omega (arith, l, e))
@@ -173,10 +173,10 @@ writes-last : (s : List ℕ) (m n : ℕ) → Writes s m → m ≡ n / 10 → Wri
 unfolding withDigit isDigit
 writes-last s m n w e =
     let b = 48 + n % 10 in
-    let d : (leb 48 b && leb b 57) ≡ true = and-true _ _ (le-leb 48 b (omega arith)) (le-leb b 57 (omega arith)) in
+    let d : (leb 48 b && leb b 57) ≡ true = and-both (le-leb 48 b (omega arith)) (le-leb b 57 (omega arith)) in
     let q : 10 * withDigits 0 s + (b - 48) ≡ n = omega (arith, w .number, e) in
     record {
-      digits = digits-snoc s b ∙ and-true _ _ (w .digits) d;
+      digits = digits-snoc s b ∙ and-both (w .digits) d;
       number = number-snoc 0 s b ∙ q;
     }
 
@@ -205,6 +205,6 @@ number-of-decimal n h =
     let w = writes (suc n) n (omega arith) in
     let l : ltb 0 (length (decimal n)) ≡ true = lt-ltb 0 (length (decimal n)) (decimal-some n) in
     let b : ltb (withDigits 0 (decimal n)) (2 ^ 64) ≡ true = ap (λ (x : ℕ). ltb x (2 ^ 64)) (w .number) ∙ lt-ltb n (2 ^ 64) h in
-    let a : isNumber (decimal n) ≡ true = and-true _ _ (and-true _ _ l (w .digits)) b in
+    let a : isNumber (decimal n) ≡ true = and-both (and-both l (w .digits)) b in
     ap (λ (t : Bool). if t then record { ok = true; value = withDigits 0 (decimal n) } else none) a
     ∙ ap (λ (x : ℕ). record { ok = true; value = x }) (w .number)

@@ -21,7 +21,8 @@ use Rattle.files.specs.declared.tagfile.Head.{Head}
 use Rattle.files.specs.Refusals.{none}
 use Rattle.files.specs.Message.{number16}
 use Rattle.files.specs.TagFile.{tagPrefix, header, body, sealed, fileSize, codeOf, countOf, headOf, tagsIn, bodyOf, macOf, countFits, refuse6, refuse20, Formed, Written}
-use Rattle.files.proofs.Passing.{unless-true, unless-passes, and-left, and-right, and-true}
+use Rattle.incidence.proofs.Booleans.{and-left, and-right, and-both}
+use Rattle.files.proofs.Passing.{unless-true, unless-passes}
 
 -- what is behind k elements of the first n
 drop-take : (k n : ℕ) (l : List ℕ) → drop k (take n l) ≡ take (n - k) (drop k l)
@@ -141,8 +142,8 @@ module _ (key : List ℕ) (hk : length key ≡ 16) (h : Head) (tags : List ℕ) 
   unfolding refuse6
   file-formed =
       unless-true _ 6 0
-      (and-true _ _ (and-true _ _ (le-leb 24 (length file) file-long) (same-eq (take 5 file) tagPrefix file-letters))
-      (and-true _ _ (ap₂ countFits file-code file-count ∙ fit) (eq-eqb (length file) (fileSize (codeOf file)) (file-length ∙ ap fileSize (sym file-code)))))
+      (and-both (and-both (le-leb 24 (length file) file-long) (same-eq (take 5 file) tagPrefix file-letters))
+      (and-both (ap₂ countFits file-code file-count ∙ fit) (eq-eqb (length file) (fileSize (codeOf file)) (file-length ∙ ap fileSize (sym file-code)))))
 
   file-sealed : refuse20 key file ≡ none
   unfolding refuse20 file sealed macOf bodyOf fileSize

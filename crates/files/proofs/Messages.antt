@@ -18,7 +18,8 @@ use Rattle.cipher.proofs.Xor.{same-true, same-eq}
 use Rattle.files.specs.declared.Refusal.{Refusal}
 use Rattle.files.specs.Refusals.{refusal, none, unless, first}
 use Rattle.files.specs.Message.{number16, prefix, itemCount, behind, itemStart, itemSize, refuse3, itemFits, refuseItems, refuse5, refuse8, fetchRefusal, fetchStart, fetchSize, PartOf}
-use Rattle.files.proofs.Passing.{first-here, first-later, rest-passes, unless-true, unless-false, unless-passes, and-left, and-right, and-true, and-false-l, and-false-r, Plain, plain-unless, plain-first, number-of}
+use Rattle.incidence.proofs.Booleans.{and-left, and-right, and-both, and-false-l, and-false-r}
+use Rattle.files.proofs.Passing.{first-here, first-later, rest-passes, unless-true, unless-false, unless-passes, Plain, plain-unless, plain-first, number-of}
 
 -- ---- numbers
 
@@ -49,7 +50,7 @@ module _ (s : List ℕ) where
   pub header-right : 7 ≤ length s → length s ≤ 65536 → take 5 s ≡ prefix → none ≡ refuse3 s
   unfolding refuse3
   header-right l u e =
-      sym (unless-true _ 3 0 (and-true _ _ (and-true _ _ (le-leb 7 (length s) l) (le-leb (length s) 65536 u)) (same-eq (take 5 s) prefix e)))
+      sym (unless-true _ 3 0 (and-both (and-both (le-leb 7 (length s) l) (le-leb (length s) 65536 u)) (same-eq (take 5 s) prefix e)))
 
   pub header-wrong : (t : Bool) → (take 5 s ≡ prefix → t ≡ true) → t ≡ false → refusal 3 0 ≡ refuse3 s
   unfolding refuse3

@@ -147,23 +147,3 @@ module _ {A : Type 0} (r q : Refusal) (e : r ≡ q) (done left : A) where
 
   pub kept : (r .number ≡ 0 → ⊥) → left ≡ (if passes q then done else left)
   kept h = ap (λ (t : Bool). if t then done else left) (sym (ne-eqb (q .number) 0 (λ z. h (number-of q r (sym e) z))))
-
--- ---- both of two tests
-
-pub and-left : (a b : Bool) → (a && b) ≡ true → a ≡ true
-and-left true b h = refl
-and-left false b h = h
-
-pub and-right : (a b : Bool) → (a && b) ≡ true → b ≡ true
-and-right true b h = h
-and-right false b h = absurd (let z : _≡_ {A = ℕ} 0 1 = cc in omega arith)
-
-pub and-true : (a b : Bool) → a ≡ true → b ≡ true → (a && b) ≡ true
-and-true a b p q = ap₂ _&&_ p q
-
-pub and-false-l : (a b : Bool) → a ≡ false → (a && b) ≡ false
-and-false-l a b p = ap (λ (x : Bool). x && b) p
-
-pub and-false-r : (a b : Bool) → b ≡ false → (a && b) ≡ false
-and-false-r true b p = p
-and-false-r false b p = refl

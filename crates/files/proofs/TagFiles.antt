@@ -14,7 +14,8 @@ use Rattle.cipher.proofs.Xor.{same-eq}
 use Rattle.sizes.specs.Sizes.{known, familyOf}
 use Rattle.files.specs.Refusals.{refusal, unless}
 use Rattle.files.specs.TagFile.{tagPrefix, codeOf, countOf, countFits, fileSize, macOf, bodyOf, refuse6, refuse20}
-use Rattle.files.proofs.Passing.{unless-true, unless-false, and-true, and-false-l, and-false-r}
+use Rattle.incidence.proofs.Booleans.{and-both, and-false-l, and-false-r}
+use Rattle.files.proofs.Passing.{unless-true, unless-false}
 use Rattle.files.proofs.Messages.{different}
 
 -- ---- size code and count
@@ -49,7 +50,7 @@ module _ (s : List ℕ) where
       → unless t 6 0 ≡ refuse6 s
   unfolding refuse6
   tag-rest t l p e =
-      ap₂ (λ (x y : Bool). unless (x && y) 6 0) (sym (and-true _ _ (le-leb 24 (length s) l) (same-eq (take 5 s) tagPrefix p))) e
+      ap₂ (λ (x y : Bool). unless (x && y) 6 0) (sym (and-both (le-leb 24 (length s) l) (same-eq (take 5 s) tagPrefix p))) e
 
 -- what is tested of the size code, the count and the length
 pub both-left : (a b t : Bool) → a ≡ t → t ≡ false → t ≡ (a && b)

@@ -14,6 +14,13 @@ and-right false b h = absurd (true≢false (sym h))
 pub and-both : {a b : Bool} → a ≡ true → b ≡ true → a && b ≡ true
 and-both p q = rw (p, q)
 
+pub and-false-l : (a b : Bool) → a ≡ false → a && b ≡ false
+and-false-l a b p = rw p
+
+pub and-false-r : (a b : Bool) → b ≡ false → a && b ≡ false
+and-false-r true b p = p
+and-false-r false b p = refl
+
 pub or-cases : (a b : Bool) → a || b ≡ true → (a ≡ true) ⊎ (b ≡ true)
 or-cases true b h = inl refl
 or-cases false b h = inr h

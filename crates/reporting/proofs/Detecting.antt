@@ -9,12 +9,13 @@ use lib.ListN.{drop}
 use borrow.Author.Tests.{le-leb}
 use Rattle.cipher.specs.Block.{if_then_else_, Bytes, zeros}
 use Rattle.cipher.proofs.Xor.{take-bytes, drop-bytes}
+use Rattle.incidence.proofs.Booleans.{and-both}
 use Rattle.sizes.specs.Sizes.{familyOf}
 use Rattle.sizes.proofs.Laws.{items-few}
 use Rattle.files.specs.Refusals.{none}
 use Rattle.files.specs.Message.{itemCount, item, refuse3, refuse5}
 use Rattle.files.specs.TagFile.{headFor, countFits}
-use Rattle.files.proofs.Passing.{and-true, given}
+use Rattle.files.proofs.Passing.{given}
 use Rattle.tagging.specs.Tagging.{keysIn, tagFile}
 use Rattle.checks.specs.Refused.{tagRefusal, reportRefusal}
 use Rattle.scheme.specs.Calls.{reportAnswer, reportNamed, reportRows, reportWrites}
@@ -58,7 +59,7 @@ module _ (input : List ℕ) (bytes : Bytes input) where
     fit =
         let T = taggable keys code first 1336 none (sym tags) refl in
         ap (countFits code) same
-        ∙ and-true _ _ (T .code) (and-true _ _ (le-leb 1 (itemCount first) (T .low)) (le-leb (itemCount first) (familyOf code .items) (T .high)))
+        ∙ and-both (T .code) (and-both (le-leb 1 (itemCount first) (T .low)) (le-leb (itemCount first) (familyOf code .items) (T .high)))
 
     few : itemCount second ≤ 273
     few =

@@ -6,7 +6,7 @@ use Prim.Native.Nat.{ℕ, _+_, _≤_, _<_}
 use lib.Dec.{leb}
 use lib.ListN.{length}
 use borrow.Author.Tests.{leb-true, le-leb, lt-leb}
-use Rattle.files.proofs.Passing.{and-left, and-right, and-false-l, and-false-r}
+use Rattle.incidence.proofs.Booleans.{and-left, and-right, and-false-l, and-false-r}
 use Rattle.reporting.specs.Printed.{firstSize, readable}
 
 module _ (input : List ℕ) where

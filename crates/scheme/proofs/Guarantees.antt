@@ -16,7 +16,7 @@ use Rattle.incidence.specs.Family.{Family}
 use Rattle.incidence.specs.Sum.{rowSum}
 use Rattle.incidence.specs.declared.Answer.{Answer}
 use Rattle.incidence.specs.declared.Answer.the-variants.{Intact, Beyond}
-use Rattle.incidence.proofs.Booleans.{not-both}
+use Rattle.incidence.proofs.Booleans.{not-both, and-both}
 use Rattle.incidence.proofs.Counting.{Found, found}
 use Rattle.incidence.proofs.Sums.{rowSum-same, rowSum-change}
 use Rattle.sizes.specs.Sizes.{familyOf}
@@ -24,7 +24,7 @@ use Rattle.files.specs.Refusals.{none, unless, first}
 use Rattle.files.specs.Message.{itemCount, item, itemStart, itemSize, refuse3, refuse5, refuse8}
 use Rattle.files.specs.TagFile.{headFor, fileSize, codeOf, countOf, headOf, tagsIn, countFits, refuse6, refuse20}
 use Rattle.files.specs.Arguments.{refuse1, refuse7, refuse9}
-use Rattle.files.proofs.Passing.{first-later, first-none, unless-true, given, and-true}
+use Rattle.files.proofs.Passing.{first-later, first-none, unless-true, given}
 use Rattle.keyed.specs.Keyed.{itemHash}
 use Rattle.tagging.specs.Tagging.{keysIn, hashes, tagSum, fileOf, tagFile}
 use Rattle.tagging.proofs.Writing.{file-same}
@@ -72,7 +72,7 @@ tag-verifies keys c s room b m e =
     let t = taggable keys c s room none (sym e) refl in
     let K = keysIn keys in
     let B = key-blocks keys b (t .keys48) in
-    let fit = and-true _ _ (t .code) (and-true _ _ (le-leb 1 (itemCount s) (t .low)) (le-leb (itemCount s) (familyOf c .items) (t .high))) in
+    let fit = and-both (t .code) (and-both (le-leb 1 (itemCount s) (t .low)) (le-leb (itemCount s) (familyOf c .items) (t .high))) in
     let bytes : (j : ℕ) → 1 ≤ j → j ≤ itemCount s → Bytes (item s j) = λ j l u. item-bytes s m j in
     let f = tagFile K (headFor c (itemCount s)) (item s) in
     let a = accepted K B c (itemCount s) fit (item s) bytes in
@@ -147,7 +147,7 @@ module _ (keys : List ℕ) (b : Bytes keys) (h : length keys ≡ 48) (c n : ℕ)
       let ec = ap fileSize (code-is K B c n fit items bytes) in
       first-later (refuse1 (length keys)) _ (unless-true _ 1 0 (eq-eqb (length keys) 48 h))
       ∙ first-later (refuse6 f) _ (a .0) ∙ first-later (refuse20 (K .seal) f) _ (a .1)
-      ∙ first-later (refuse8 (countOf f) j) _ (unless-true _ 8 0 (and-true _ _ (le-leb 1 j low) (le-leb j (countOf f) (omega arith))))
+      ∙ first-later (refuse8 (countOf f) j) _ (unless-true _ 8 0 (and-both (le-leb 1 j low) (le-leb j (countOf f) (omega arith))))
       ∙ first-later (refuse9 (length old) 1) _ (unless-true _ 9 1 (le-leb (length old) 1024 lo))
       ∙ first-later (refuse9 (length new) 2) _ (unless-true _ 9 2 (le-leb (length new) 1024 ln))
       ∙ first-none (refuse7 (fileSize (codeOf f)) room) (unless-true _ 7 0 (le-leb (fileSize (codeOf f)) room (omega arith)))

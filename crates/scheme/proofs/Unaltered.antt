@@ -17,7 +17,7 @@ use Rattle.sizes.specs.Sizes.{known, familyOf}
 use Rattle.sizes.proofs.Laws.{lawful}
 use Rattle.files.specs.Refusals.{none}
 use Rattle.files.specs.TagFile.{headFor, codeOf, countOf, tagsIn, countFits, refuse6, refuse20, Written}
-use Rattle.files.proofs.Passing.{and-left, and-right}
+use Rattle.incidence.proofs.Booleans.{and-left, and-right}
 use Rattle.files.proofs.Accepted.{code-back, count-back, tags-back, written-accepted}
 use Rattle.keyed.specs.Keyed.{itemHash, tagOf, sumOfTag}
 use Rattle.keyed.proofs.KeyedLaws.{itemHash-block, tagOf-block, tagOf-length, sumOfTag-tagOf}

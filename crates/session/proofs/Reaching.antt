@@ -10,14 +10,14 @@ use lib.Dec.{eqb, leb}
 use lib.ListN.{length}
 use borrow.Author.Tests.{eqb-true, eqb-false, leb-true, le-leb}
 use Rattle.cipher.specs.Block.{zeros}
-use Rattle.incidence.proofs.Booleans.{not-both}
+use Rattle.incidence.proofs.Booleans.{not-both, and-left, and-right, and-both}
 use Rattle.incidence.proofs.Counting.{inside-yes}
 use Rattle.sizes.specs.Sizes.{known, familyOf}
 use Rattle.files.specs.declared.Refusal.{Refusal}
 use Rattle.files.specs.Refusals.{refusal, none, first}
 use Rattle.files.specs.TagFile.{countFits, fileSize}
 use Rattle.files.specs.Arguments.{refuse1, refuse2, refuse4, refuse7, refuse9}
-use Rattle.files.proofs.Passing.{first-here, unless-true, unless-false, and-left, and-right, and-true, given, kept}
+use Rattle.files.proofs.Passing.{first-here, unless-true, unless-false, given, kept}
 use Rattle.tagging.specs.Tagging.{keysIn}
 use Rattle.session.specs.declared.Session.{Session}
 use Rattle.session.specs.Session.{closed, isOpen, refuse22, refuse23, refuse24, beginRefusal, beginGives, putRefusal, withItem, putGives, closeRefusal, closeGives, after, Reached, Given}
@@ -42,7 +42,7 @@ begins keys c n = go (beginRefusal keys c n) refl (eqb (beginRefusal keys c n .n
         let h = eqb-true (r .number) 0 e in
         let b = begin-tells keys c n r q h in
         subst Either (given r (beginRefusal keys c n) q (empty keys c n) closed h)
-        (inl (and-true _ _ (and-true _ _ (b .code) (and-true _ _ (le-leb 1 n (b .low)) (le-leb n _ (b .high)))) (le-leb 0 n (omega arith))))
+        (inl (and-both (and-both (b .code) (and-both (le-leb 1 n (b .low)) (le-leb n _ (b .high)))) (le-leb 0 n (omega arith))))
     go r q false e = subst Either (kept r (beginRefusal keys c n) q (empty keys c n) closed (eqb-false (r .number) 0 e)) (inr refl)
 
 -- the closed session takes nothing
@@ -60,7 +60,7 @@ puts s item E = go (putRefusal s item) refl (eqb (putRefusal s item .number) 0) 
         let p = put-tells s item r q h in
         subst Either (given r (putRefusal s item) q (withItem s item) s h)
         (inl (⊎-elim
-        (λ o. and-true _ _ (and-left (countFits (s .code) (s .count)) (leb (s .taken) (s .count)) o) (le-leb (s .taken + 1) (s .count) (omega (arith, p .more))))
+        (λ o. and-both (and-left (countFits (s .code) (s .count)) (leb (s .taken) (s .count)) o) (le-leb (s .taken + 1) (s .count) (omega (arith, p .more))))
         (λ z. absurd (none-more s z (p .more))) E))
     go r q false e = subst Either (kept r (putRefusal s item) q (withItem s item) s (eqb-false (r .number) 0 e)) E
 

@@ -20,7 +20,8 @@ use Rattle.sizes.proofs.Laws.{tags-few}
 use Rattle.files.specs.Refusals.{refusal, none, first}
 use Rattle.files.specs.TagFile.{headFor, fileSize, countFits}
 use Rattle.files.specs.Arguments.{refuse7, refuse9}
-use Rattle.files.proofs.Passing.{unless-true, unless-false, and-left, and-true, given}
+use Rattle.incidence.proofs.Booleans.{and-left, and-both}
+use Rattle.files.proofs.Passing.{unless-true, unless-false, given}
 use Rattle.keyed.specs.Keyed.{itemHash}
 use Rattle.sums.specs.Adding.{sumIn, Holds}
 use Rattle.tagging.specs.Tagging.{keysIn, hashes, tagSum, fileOf, tagFile}
@@ -62,7 +63,7 @@ module _ (keys : List ℕ) (c n : ℕ) (items : ℕ → List ℕ) where
         same-keys = refl;
         sums = summed-first (familyOf c) (familyOf c .tags) (familyOf c .rowOfTag) (hashes (keysIn keys) items) (zeros 1312)
             (λ t lo hi. zero-sums 1312 t lo (omega (arith, tags-few c)));
-        is-open = and-true _ _ (and-true _ _ (b .code) (and-true _ _ (le-leb 1 n (b .low)) (le-leb n _ (b .high)))) (le-leb 0 n (omega arith));
+        is-open = and-both (and-both (b .code) (and-both (le-leb 1 n (b .low)) (le-leb n _ (b .high)))) (le-leb 0 n (omega arith));
       }
 
   module _ (long : length keys ≡ 48) (s : Session) (k : ℕ) (H : Carries k s) (p : putRefusal s (items (suc k)) ≡ none) where
@@ -95,7 +96,7 @@ module _ (keys : List ℕ) (c n : ℕ) (items : ℕ → List ℕ) where
               (summed-next F (F .tags) (F .rowOfTag) (hashes (keysIn keys) items) (zeros 1312) (s .sums) _ hash k (suc k) (sym (add-one k)) refl
               (H .sums)
               (tags-added c (suc k) hash (s .sums) hash-length l));
-          is-open = and-true _ _ (and-left (countFits (s .code) (s .count)) (leb (s .taken) (s .count)) (H .is-open))
+          is-open = and-both (and-left (countFits (s .code) (s .count)) (leb (s .taken) (s .count)) (H .is-open))
               (le-leb (s .taken + 1) (s .count) (omega (arith, q .more)));
         }
 

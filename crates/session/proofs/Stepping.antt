@@ -15,7 +15,8 @@ use Rattle.files.specs.declared.Refusal.{Refusal}
 use Rattle.files.specs.Refusals.{none, first}
 use Rattle.files.specs.TagFile.{fileSize, countFits}
 use Rattle.files.specs.Arguments.{refuse1, refuse2, refuse4, refuse7, refuse9}
-use Rattle.files.proofs.Passing.{rest-passes, unless-passes, number-of, and-left, and-right}
+use Rattle.incidence.proofs.Booleans.{and-left, and-right}
+use Rattle.files.proofs.Passing.{rest-passes, unless-passes, number-of}
 use Rattle.keyed.specs.Keyed.{itemHash}
 use Rattle.tagging.specs.declared.Keys.{Keys}
 use Rattle.tagging.specs.Tagging.{keysIn}

@@ -2,7 +2,7 @@
 use mathlib.Core.Path.{sym, ap, _∙_}
 use mathlib.Core.Bool.{Bool, _&&_}
 use lib.Dec.{leb}
-use Rattle.files.proofs.Passing.{and-false-l}
+use Rattle.incidence.proofs.Booleans.{and-false-l}
 use Rattle.session.specs.Session.{isOpen}
 use borrow.Author.Needs.{needs}
 use Rattle.session.proofs.Session.is_open.Statement.{statement}
