@@ -16,13 +16,13 @@ use Rattle.incidence.specs.Family.{parity}
 use Rattle.incidence.proofs.Listing.{listed-ext}
 use Rattle.plane.specs.Plane.{member, on}
 use Rattle.polynomials.specs.Polynomial.{polySize}
-use Rattle.polynomials.specs.CyclicCode.{ofList, generatorPolynomial, checkPolynomial, stepsBack, rowPattern}
 use Rattle.polynomials.proofs.Parity.{xor-none, xor-turn, xor-same, parity-ext, parity-map, parity-last}
 use Rattle.polynomials.proofs.Sizes.{size-most}
 use Rattle.polynomials.proofs.Acting.{act}
 use Rattle.polynomials.proofs.Lessening.{size-at, size-above}
 use Rattle.polynomials.proofs.Recurring.{act-highest}
-use Rattle.polynomials.proofs.Checking.{bezout, check-kills, check-size, generator-some}
+use Rattle.cyclic.specs.CyclicCode.{ofList, generatorPolynomial, checkPolynomial, stepsBack, rowPattern}
+use Rattle.cyclic.proofs.Checking.{bezout, check-kills, check-size, generator-some}
 use Rattle.deriving.specs.Shortest.{Within, xorBack, Pattern, NoShorterPattern, NoShorterRow, OnlyPattern, FewestSteps, Independent}
 use Rattle.deriving.proofs.Matrices.{fails-or, no-shorter-pattern-by, independent-by, listed-within, within-ext}
 use Rattle.deriving.proofs.Choices.{only-pattern-by, fewest-steps-by}

@@ -12,10 +12,10 @@ use Rattle.plane.specs.Table.{planeItems, differenceLists, differences}
 use Rattle.plane.proofs.Ranks.{under, under-at}
 use Rattle.plane.proofs.Lookup.{five, no-differences, differences-few, items-most}
 use Rattle.plane.proofs.Rules.{rules}
-use Rattle.polynomials.specs.CyclicCode.{rowPattern}
-use Rattle.polynomials.specs.Deriving.{refuses, patternAnswer, patternWrites}
-use Rattle.polynomials.specs.declared.Derived.{Derived}
-use Rattle.polynomials.proofs.Deriving.{refuses-not, is-derived, is-written}
+use Rattle.cyclic.specs.CyclicCode.{rowPattern}
+use Rattle.cyclic.specs.Deriving.{refuses, patternAnswer, patternWrites}
+use Rattle.cyclic.specs.declared.Derived.{Derived}
+use Rattle.cyclic.proofs.Deriving.{refuses-not, is-derived, is-written}
 use Rattle.deriving.specs.Derived.{derived}
 
 small : ℕ → Bool

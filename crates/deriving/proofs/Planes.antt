@@ -15,7 +15,7 @@ use Rattle.plane.specs.Table.{itemCounts, planeItems, tagCounts, planeTags, dif
 use Rattle.plane.specs.Plane.{plane}
 use Rattle.plane.proofs.Rules.{rules}
 use Rattle.polynomials.specs.Polynomial.{longer, polySize, raised, less, gcdIn, gcd, quotientIn, quotient}
-use Rattle.polynomials.specs.CyclicCode.{modulus, ofList, generatorPolynomial, checkPolynomial, stepsBack, rowPattern}
+use Rattle.cyclic.specs.CyclicCode.{modulus, ofList, generatorPolynomial, checkPolynomial, stepsBack, rowPattern}
 use Rattle.deriving.specs.Shortest.{Pattern, NoShorterPattern, NoShorterRow, OnlyPattern, FewestSteps, Independent}
 use Rattle.deriving.specs.Derived.{derived}
 use Rattle.deriving.proofs.Lists as lists

@@ -14,12 +14,12 @@ use Rattle.cipher.specs.Block.{if_then_else_}
 use Rattle.plane.specs.Plane.{member, on}
 use Rattle.plane.proofs.Cyclic.{on-inside}
 use Rattle.polynomials.specs.Polynomial.{polySize}
-use Rattle.polynomials.specs.CyclicCode.{ofList}
 use Rattle.polynomials.proofs.Parity.{xor-none, xor-turn}
-use Rattle.polynomials.proofs.Terms.{ofList-length}
 use Rattle.polynomials.proofs.Acting.{act, act-take, size-tail, take-few, zeros-at}
 use Rattle.polynomials.proofs.Lessening.{size-by}
 use Rattle.polynomials.proofs.Recurring.{act-quiet}
+use Rattle.cyclic.specs.CyclicCode.{ofList}
+use Rattle.cyclic.proofs.Terms.{ofList-length}
 
 -- a polynomial on a sequence that is 1 at one of n places shows that coefficient
 act-single : (p : List ℕ) (c n : ℕ) (f : ℕ → Bool) (u : ℕ) → c < n → polySize p ≤ n → f (u + c) ≡ true

@@ -2,7 +2,7 @@
 use mathlib.Core.List.{List}
 use Prim.Native.Nat.{ℕ}
 use Rattle.plane.specs.Table.{planeItems, differences}
-use Rattle.polynomials.specs.CyclicCode.{rowPattern}
+use Rattle.cyclic.specs.CyclicCode.{rowPattern}
 
 -- of the plane s: from its difference list alone
 unfoldable pub derived : ℕ → List ℕ

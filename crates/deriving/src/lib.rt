@@ -57,7 +57,7 @@ fn derive(s: usize, steps: &mut [u16]) -> usize
 {
     let mut list = [0u16; 17];
     let n = copy_differences(s, &mut list);
-    let found = polynomials::pattern(table::items(s), &list[0..n], steps);
+    let found = cyclic::pattern(table::items(s), &list[0..n], steps);
     found.count
 }
 

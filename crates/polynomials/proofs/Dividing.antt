@@ -5,7 +5,7 @@ use mathlib.Core.List.{List}
 use Prim.Native.Nat.{ℕ, zero, suc, _+_, _-_, _≤_, _<_}
 use native.Mathlib.Omega.{arith}
 use lib.Dec.{eqb, ltb}
-use lib.ListN.{length, set}
+use lib.ListN.{length, set, length-replicate}
 use borrow.Author.Tests.{eq-eqb, ne-eqb, lt-ltb, le-ltb}
 use Rattle.cipher.specs.Block.{_⊕_, zeros}
 use Rattle.incidence.proofs.Booleans.{or-first, or-second}
@@ -119,6 +119,10 @@ module _ (h p q : List ℕ) (a b n : ℕ) (ea : a ≡ polySize p) (eb : b ≡ po
       ap₂ (λ (x y : ℕ). quotientIn n (set h (x - y) 1) r q) ea eb
       ∙ ap (λ (s : List ℕ). quotientIn n (set h (polySize p - polySize q) 1) s q) (less-as p q r a b ea eb e)
       ∙ sym (quotient-goes h p q n (λ (z : polySize q ≡ 0). hb (eb ∙ z)) (omega arith))
+
+-- an array that holds zeros, as that of the quotient does at first
+pub zeros-long : (n : ℕ) (p : List ℕ) → p ≡ zeros n → length p ≡ n
+zeros-long n p e = ap length e ∙ length-replicate n 0
 
 pub quotient-begun : (h p q : List ℕ) (a : ℕ) → h ≡ zeros (length p) → a ≡ polySize p → quotientIn (a - 0) h p q ≡ quotient p q
 unfolding quotient

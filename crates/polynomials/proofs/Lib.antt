@@ -1,14 +1,10 @@
 -- The laws that the proofs of this crate and those of the crates above cite.
 pub mod Sizes
 pub mod Raising
-pub mod Terms
 pub mod Dividing
-pub mod Steps
-pub mod Deriving
 pub mod Parity
 pub mod Acting
 pub mod Lessening
 pub mod Euclid
 pub mod Division
 pub mod Recurring
-pub mod Checking

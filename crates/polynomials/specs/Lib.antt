@@ -1,4 +1,2 @@
 -- What the contracts about polynomials say. Definitions only: the laws about them are in proofs/.
 pub mod Polynomial
-pub mod CyclicCode
-pub mod Deriving

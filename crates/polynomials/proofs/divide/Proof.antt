@@ -3,8 +3,7 @@ use mathlib.Core.Path.{_≡_}
 use Prim.Native.Nat.{_-_, _≤_}
 use lib.ListN.{length}
 use Rattle.polynomials.specs.Polynomial.{quotientIn, quotient}
-use Rattle.polynomials.proofs.Terms.{zeros-long}
-use Rattle.polynomials.proofs.Dividing.{quotient-begun, quotient-next, quotient-done}
+use Rattle.polynomials.proofs.Dividing.{zeros-long, quotient-begun, quotient-next, quotient-done}
 use borrow.Author.Needs.{needs}
 use Rattle.polynomials.proofs.divide.Statement.{statement}
 use Rattle.polynomials.proofs.divide.Tie as tie

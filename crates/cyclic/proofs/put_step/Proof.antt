@@ -1,9 +1,9 @@
 -- By whether the coefficient is 1.
 use borrow.Author.Tests.{eq-eqb, ne-eqb}
-use Rattle.polynomials.proofs.Steps.{behind-none}
+use Rattle.cyclic.proofs.Steps.{behind-none}
 use borrow.Author.Needs.{needs}
-use Rattle.polynomials.proofs.put_step.Statement.{statement}
-use Rattle.polynomials.proofs.put_step.Tie as tie
+use Rattle.cyclic.proofs.put_step.Statement.{statement}
+use Rattle.cyclic.proofs.put_step.Tie as tie
 
 returns : tie.Need-returns
 returns c = search (needs, ne-eqb, behind-none)

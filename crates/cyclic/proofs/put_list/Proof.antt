@@ -2,11 +2,11 @@
 use mathlib.Core.Path.{_≡_}
 use Prim.Native.Nat.{_≤_}
 use lib.ListN.{length, drop}
-use Rattle.polynomials.specs.CyclicCode.{ofList}
-use Rattle.polynomials.proofs.Terms.{list-room, list-none, list-more, list-all}
+use Rattle.cyclic.specs.CyclicCode.{ofList}
+use Rattle.cyclic.proofs.Terms.{list-room, list-none, list-more, list-all}
 use borrow.Author.Needs.{needs}
-use Rattle.polynomials.proofs.put_list.Statement.{statement}
-use Rattle.polynomials.proofs.put_list.Tie as tie
+use Rattle.cyclic.proofs.put_list.Statement.{statement}
+use Rattle.cyclic.proofs.put_list.Tie as tie
 
 abbrev Inv-loop : tie.InvT-loop
 Inv-loop m list p₀ i₀ p i = (i ≤ length list) × (length p ≡ length p₀) × (p ≡ ofList m (drop i list))

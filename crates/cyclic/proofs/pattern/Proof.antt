@@ -5,11 +5,11 @@ use mathlib.Core.Logic.{⊎-elim}
 use native.Mathlib.Omega.{arith}
 use lib.ListN.{length}
 use borrow.Author.Tests.{ltb-false}
-use Rattle.polynomials.specs.Deriving.{refuses}
-use Rattle.polynomials.proofs.Deriving.{lent-zeros, refuses-none, refuses-many, refuses-short, refuses-not, not-derived, none-written, is-derived, is-written}
+use Rattle.cyclic.specs.Deriving.{refuses}
+use Rattle.cyclic.proofs.Deriving.{lent-zeros, refuses-none, refuses-many, refuses-short, refuses-not, not-derived, none-written, is-derived, is-written}
 use borrow.Author.Needs.{needs}
-use Rattle.polynomials.proofs.pattern.Statement.{statement}
-use Rattle.polynomials.proofs.pattern.Tie as tie
+use Rattle.cyclic.proofs.pattern.Statement.{statement}
+use Rattle.cyclic.proofs.pattern.Tie as tie
 
 returns : tie.Need-returns
 returns c =

@@ -9,16 +9,16 @@ use lib.Dec.{eqb, ltb}
 use lib.ListN.{set}
 use Rattle.cipher.specs.Block.{if_then_else_, _⊕_, zeros}
 use Rattle.incidence.specs.Family.{parity}
 use Rattle.polynomials.specs.Polynomial.{longer, polySize, raised, gcd}
-use Rattle.polynomials.specs.CyclicCode.{modulus, ofList, generatorPolynomial, checkPolynomial}
 use Rattle.polynomials.proofs.Parity.{xor-none, xor-turn, xor-four, xor-self, xor-and, parity-ext, parity-append, parity-map}
 use Rattle.polynomials.proofs.Sizes.{size-most}
-use Rattle.polynomials.proofs.Terms.{modulus-length, ofList-length}
 use Rattle.polynomials.proofs.Acting.{Bits, act, act-sum, act-zero, act-zeros, act-raised, act-none}
 use Rattle.polynomials.proofs.Lessening.{Poly, poly-raised, poly-sum, bits-zeros}
 use Rattle.polynomials.proofs.Euclid.{Kills, Ends, gcd-keeps, gcd-ends}
 use Rattle.polynomials.proofs.Division.{Divided, quotient-size, quotient-divided}
 use Rattle.polynomials.proofs.Recurring.{act-ext, act-nothing, recurring, recurring-killed, shorter-none}
+use Rattle.cyclic.specs.CyclicCode.{modulus, ofList, generatorPolynomial, checkPolynomial}
+use Rattle.cyclic.proofs.Terms.{modulus-length, ofList-length}
 
 -- ---- two polynomials act in either order
 

@@ -8,7 +8,8 @@ use lib.Dec.{ltb}
 use lib.ListN.{length, getD, set, drop, length-append, length-set, length-replicate}
 use lib.Seq.{drop-length, drop-cons}
 use Rattle.cipher.specs.Block.{if_then_else_, zeros}
-use Rattle.polynomials.specs.CyclicCode.{modulus, ofList}
+use Rattle.polynomials.proofs.Dividing.{zeros-long}
+use Rattle.cyclic.specs.CyclicCode.{modulus, ofList}
 
 -- ---- x^m + 1
 
@@ -26,9 +27,6 @@ modulus-set (suc n) p h e =
 pub modulus-length : (m : ℕ) → 0 < m → length (modulus m) ≡ suc m
 unfolding modulus
 modulus-length m h = simp (length-append, length-replicate) (omega arith)
-
-pub zeros-long : (n : ℕ) (p : List ℕ) → p ≡ zeros n → length p ≡ n
-zeros-long n p e = ap length e ∙ length-replicate n 0
 
 -- m + 1 zeros have a place for each term to x^m
 pub zeros-room : (m i : ℕ) (p : List ℕ) → p ≡ zeros (suc m) → i ≤ m → i < length p

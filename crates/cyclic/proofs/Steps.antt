@@ -13,9 +13,9 @@ use Rattle.cipher.specs.Block.{if_then_else_}
 use Rattle.incidence.specs.Count.{indicator, listed}
 use Rattle.incidence.proofs.Counting.{count-most}
 use Rattle.incidence.proofs.Listing.{listed-length}
 use Rattle.polynomials.specs.Polynomial.{polySize}
-use Rattle.polynomials.specs.CyclicCode.{stepsBack}
 use Rattle.polynomials.proofs.Sizes.{size-most}
+use Rattle.cyclic.specs.CyclicCode.{stepsBack}
 
 pub behind-none : (c at : ℕ) → (c ≡ 1 → ⊥) → at ≡ at + indicator (eqb c 1)
 behind-none c at h =

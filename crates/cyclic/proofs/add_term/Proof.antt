@@ -1,8 +1,8 @@
 -- By whether e is below m.
 use borrow.Author.Tests.{lt-ltb, le-ltb}
 use borrow.Author.Needs.{needs}
-use Rattle.polynomials.proofs.add_term.Statement.{statement}
-use Rattle.polynomials.proofs.add_term.Tie as tie
+use Rattle.cyclic.proofs.add_term.Statement.{statement}
+use Rattle.cyclic.proofs.add_term.Tie as tie
 
 returns : tie.Need-returns
 returns c = search (needs, lt-ltb)

@@ -5,11 +5,11 @@ use mathlib.Core.List.{List, _++_}
 use Prim.Native.Nat.{ℕ, suc}
 use native.Mathlib.Omega.{arith}
 use lib.ListN.{length, drop}
-use Rattle.polynomials.proofs.Terms.{zeros-long}
-use Rattle.polynomials.proofs.Deriving.{zeros-modulus, steps-pattern}
+use Rattle.polynomials.proofs.Dividing.{zeros-long}
+use Rattle.cyclic.proofs.Deriving.{zeros-modulus, steps-pattern}
 use borrow.Author.Needs.{needs}
-use Rattle.polynomials.proofs.derive.Statement.{statement}
-use Rattle.polynomials.proofs.derive.Tie as tie
+use Rattle.cyclic.proofs.derive.Statement.{statement}
+use Rattle.cyclic.proofs.derive.Tie as tie
 
 gcd-requires : tie.Need-gcd-requires
 gcd-requires c κs =

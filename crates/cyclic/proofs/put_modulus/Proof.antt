@@ -1,8 +1,8 @@
 -- Two terms are put into zeros (Terms).
-use Rattle.polynomials.proofs.Terms.{zeros-room, modulus-set}
+use Rattle.cyclic.proofs.Terms.{zeros-room, modulus-set}
 use borrow.Author.Needs.{needs}
-use Rattle.polynomials.proofs.put_modulus.Statement.{statement}
-use Rattle.polynomials.proofs.put_modulus.Tie as tie
+use Rattle.cyclic.proofs.put_modulus.Statement.{statement}
+use Rattle.cyclic.proofs.put_modulus.Tie as tie
 
 slice-write-p : tie.Need-slice-write-p
 slice-write-p c = search (needs, zeros-room)

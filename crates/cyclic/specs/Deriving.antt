@@ -5,8 +5,8 @@ use Prim.Native.Nat.{ℕ}
 use lib.Dec.{eqb, ltb}
 use lib.ListN.{length, drop}
 use Rattle.cipher.specs.Block.{if_then_else_}
-use Rattle.polynomials.specs.CyclicCode.{rowPattern}
-use Rattle.polynomials.specs.declared.Derived.{Derived}
+use Rattle.cyclic.specs.CyclicCode.{rowPattern}
+use Rattle.cyclic.specs.declared.Derived.{Derived}
 
 -- m is 0 or larger than any plane, or there are fewer places than a pattern for m cards can have steps
 unfoldable pub refuses : ℕ → ℕ → Bool

@@ -2,10 +2,10 @@
 use mathlib.Core.Path.{_≡_}
 use Prim.Native.Nat.{_-_, _≤_}
 use lib.ListN.{length}
-use Rattle.polynomials.proofs.Steps.{Front, back, steps-begun, steps-read, steps-few, steps-room, steps-next, steps-written, steps-counted}
+use Rattle.cyclic.proofs.Steps.{Front, back, steps-begun, steps-read, steps-few, steps-room, steps-next, steps-written, steps-counted}
 use borrow.Author.Needs.{needs}
-use Rattle.polynomials.proofs.put_steps.Statement.{statement}
-use Rattle.polynomials.proofs.put_steps.Tie as tie
+use Rattle.cyclic.proofs.put_steps.Statement.{statement}
+use Rattle.cyclic.proofs.put_steps.Tie as tie
 
 abbrev Inv-loop : tie.InvT-loop
 Inv-loop h out₀ n at₀ k₀ out at k =

@@ -9,11 +9,11 @@ use lib.ListN.{length, take, drop}
 use borrow.Author.Tests.{eq-eqb, ne-eqb}
 use Rattle.cipher.specs.Block.{zeros}
 use Rattle.incidence.proofs.Booleans.{or-first, or-second}
 use Rattle.polynomials.specs.Polynomial.{gcd, quotient}
-use Rattle.polynomials.specs.CyclicCode.{modulus, ofList, generatorPolynomial, checkPolynomial, stepsBack, rowPattern}
-use Rattle.polynomials.specs.Deriving.{refuses, patternAnswer, patternWrites}
-use Rattle.polynomials.specs.declared.Derived.{Derived}
-use Rattle.polynomials.proofs.Terms.{modulus-length}
+use Rattle.cyclic.specs.CyclicCode.{modulus, ofList, generatorPolynomial, checkPolynomial, stepsBack, rowPattern}
+use Rattle.cyclic.specs.Deriving.{refuses, patternAnswer, patternWrites}
+use Rattle.cyclic.specs.declared.Derived.{Derived}
+use Rattle.cyclic.proofs.Terms.{modulus-length}
 
 zeros-front : (n k : ℕ) → n ≤ k → take n (zeros k) ≡ zeros n
 zeros-front zero k h = refl

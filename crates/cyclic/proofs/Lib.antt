@@ -1,0 +1,5 @@
+-- The laws that the proofs of this crate and those of the crates above cite.
+pub mod Terms
+pub mod Steps
+pub mod Deriving
+pub mod Checking
