@@ -50,12 +50,11 @@ fn clear_row(code: u64, n: usize, row: usize, marks: &mut [u8])
     requires { ⌜ (n ≤ familyOf code .items) × (n ≤ length (now marks)) ⌝ }
     ensures { λ _. ⌜ Cleared (familyOf code .on row) n (now (marks .entry)) (now (marks .exit)) ⌝ }
 {
-    let held = sizes::item_count(code, row);
-    let upto = sizes::items_upto(code, row);
+    let mut items = [0usize; sizes::MOST];
+    let held = sizes::items_of(code, row, &mut items);
     let mut k = 0;
     while k < held {
-        let j = sizes::item_by(code, row, upto, k);
-        clear_item(marks, n, j);
+        clear_item(marks, n, items[k]);
         k += 1;
     }
 }
@@ -119,11 +118,11 @@ fn holds_named(code: u64, n: usize, row: usize, marks: &[u8]) -> bool
     requires { ⌜ (n ≤ familyOf code .items) × (n ≤ length (now marks)) ⌝ }
     ensures { λ r. ⌜ r ≡ holdsMarked (familyOf code) (now (marks .entry)) n row ⌝ }
 {
-    let held = sizes::item_count(code, row);
-    let upto = sizes::items_upto(code, row);
+    let mut items = [0usize; sizes::MOST];
+    let held = sizes::items_of(code, row, &mut items);
     let mut k = 0;
     while k < held {
-        if is_named(marks, n, sizes::item_by(code, row, upto, k)) {
+        if is_named(marks, n, items[k]) {
             return true;
         }
         k += 1;

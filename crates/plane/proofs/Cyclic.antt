@@ -14,7 +14,8 @@ use Rattle.incidence.specs.Family.{Earlier, parity}
 use Rattle.incidence.proofs.Booleans.{and-left, and-right, beq-eq}
 use Rattle.incidence.proofs.Counting.{inside-low, inside-high, inside-yes, count-ext, every, every-at}
 use Rattle.plane.specs.Plane.{member, pairs, on, made}
-use Rattle.plane.proofs.Ranks.{above, under, rank, not-member, not-member-top, count-members, many-under, count-rank, rank-all, count-add, count-down}
+use Rattle.plane.specs.Walk.{above}
+use Rattle.plane.proofs.Ranks.{under, rank, not-member, not-member-top, count-members, many-under, count-rank, rank-all, count-add, count-down, count-back}
 
 -- every entry is from 1 to t
 abbrev pub within : ℕ → List ℕ → Bool
@@ -48,6 +49,14 @@ pub record Rules (m t d : ℕ) (D P : List ℕ) : Type 0 where
 pub on-inside : (m : ℕ) (D : List ℕ) (i j : ℕ) → 1 ≤ i → i ≤ m → 1 ≤ j → j ≤ m → on m D i j ≡ member ((j + m - i) % m) D
 unfolding on
 on-inside m D i j a b c d = rw (inside-yes m i a b, inside-yes m j c d)
+
+-- counted from the other end, the rows are the cards and the cards the rows
+pub turned : (m : ℕ) (D : List ℕ) (i j : ℕ) → 1 ≤ i → i ≤ m → 1 ≤ j → j ≤ m → on m D i j ≡ on m D (m + 1 - j) (m + 1 - i)
+turned m D i j a b c d =
+    let e : j + m - i ≡ m + 1 - i + m - (m + 1 - j) = omega arith in
+    on-inside m D i j a b c d
+    ∙ ap (λ (x : ℕ). member (x % m) D) e
+    ∙ sym (on-inside m D (m + 1 - j) (m + 1 - i) (omega arith) (omega arith) (omega arith) (omega arith))
 
 module _ (m t d : ℕ) (D P : List ℕ) (R : Rules m t d D P) where
   -- whether the remainder of x is in D
@@ -88,16 +97,11 @@ module _ (m t d : ℕ) (D P : List ℕ) (R : Rules m t d D P) where
         count-ext (λ k. h (m + k)) h a (λ k l u. again k),
       )
 
-  -- a card's rows fall along the remainders, a row's cards rise along them
+  -- a card's rows fall along the remainders
   down : (h : ℕ → Bool) → ((x : ℕ) → h (m + x) ≡ h x) → (j : ℕ) → 1 ≤ j → countUpTo (λ i. h (j + m - i)) m ≡ countUpTo h m
   down h again j l =
       let e : j + m ≡ j - 1 + suc m = omega arith in
       rw e (count-down h (j - 1) m ∙ whole h again (j - 1))
-
-  up : (h : ℕ → Bool) → ((x : ℕ) → h (m + x) ≡ h x) → (i : ℕ) → i ≤ m → countUpTo (λ j. h (j + m - i)) m ≡ countUpTo h m
-  up h again i u =
-      count-ext (λ j. h (j + m - i)) (λ j. h (m - i + j)) m (λ j a b. let e : j + m - i ≡ m - i + j = omega arith in ap h e)
-      ∙ whole h again (m - i)
 
   -- property A: a card is on d + 1 rows, and a row holds d + 1 cards
   pub column-weight : (j : ℕ) → 1 ≤ j → j ≤ m → countUpTo (λ i. on m D i j) m ≡ suc d
@@ -106,7 +110,9 @@ module _ (m t d : ℕ) (D P : List ℕ) (R : Rules m t d D P) where
 
   pub row-weight : (i : ℕ) → 1 ≤ i → i ≤ m → countUpTo (λ j. on m D i j) m ≡ suc d
   row-weight i l u =
-      count-ext (λ j. on m D i j) (λ j. hit (j + m - i)) m (λ j a b. on-inside m D i j l u a b) ∙ up hit hit-again i u ∙ count-all
+      count-ext (λ j. on m D i j) (λ j. on m D (m + 1 - j) (m + 1 - i)) m (λ j a b. turned m D i j l u a b)
+      ∙ count-back (λ r. on m D r (m + 1 - i)) m
+      ∙ column-weight (m + 1 - i) (omega arith) (omega arith)
 
   -- every nonzero remainder is a difference of two members once
   pub once-at : (δ : ℕ) → 1 ≤ δ → δ < m → pairs m D δ ≡ 1
@@ -129,7 +135,7 @@ module _ (m t d : ℕ) (D P : List ℕ) (R : Rules m t d D P) where
       ∙ many-under (λ e. hit (e + δ)) m D (R .below)
       ∙ once-at δ l u
 
-  -- property B: two cards share one row. First where the other stands δ further round.
+  -- property B: two cards share one row, and two rows one card. First where the other stands δ further round.
   columns-by : (δ j k : ℕ) → 1 ≤ δ → δ < m → 1 ≤ j → j ≤ m → 1 ≤ k → k ≤ m
       → ((i : ℕ) → 1 ≤ i → i ≤ m → (k + m - i) % m ≡ (j + m - i + δ) % m) → countUpTo (λ i. on m D i j && on m D i k) m ≡ 1
   columns-by δ j k l u lj uj lk uk h =
@@ -150,6 +156,13 @@ module _ (m t d : ℕ) (D P : List ℕ) (R : Rules m t d D P) where
           let l : k < j = omega (arith, ltb-false j k e) in
           columns-by (m + k - j) j k (omega arith) (omega arith) lj uj lk uk
           (λ i a b. let z : j + m - i + (m + k - j) ≡ k + m - i + m = omega arith in rw (z, add-mod-right (k + m - i) m))
+
+  pub rows-share : (i k : ℕ) → 1 ≤ i → i ≤ m → 1 ≤ k → k ≤ m → (k ≡ i → ⊥) → countUpTo (λ j. on m D i j && on m D k j) m ≡ 1
+  rows-share i k li ui lk uk ne =
+      count-ext (λ j. on m D i j && on m D k j) (λ j. on m D (m + 1 - j) (m + 1 - i) && on m D (m + 1 - j) (m + 1 - k)) m
+      (λ j a b. ap₂ _&&_ (turned m D i j li ui a b) (turned m D k j lk uk a b))
+      ∙ count-back (λ r. on m D r (m + 1 - i) && on m D r (m + 1 - k)) m
+      ∙ columns-share (m + 1 - i) (m + 1 - k) (omega arith) (omega arith) (omega arith) (omega arith) (λ e. ne (omega arith))
 
   -- ---- the pattern
 

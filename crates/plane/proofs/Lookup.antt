@@ -1,8 +1,8 @@
 -- The code's tables are the definitions' lists. A table is tested at each of the five places of a column; past the end both are empty.
 use mathlib.Core.Path.{_≡_, refl, sym, ap, _∙_}
 use mathlib.Core.Bool.{Bool, true, false, _&&_}
-use mathlib.Core.List.{List, [], _∷_, _++_}
-use Prim.Native.Nat.{ℕ, zero, suc, _+_, _≤_, _<_}
+use mathlib.Core.List.{List, [], _∷_}
+use Prim.Native.Nat.{ℕ, zero, suc, _+_, _-_, _≤_, _<_}
 use native.Mathlib.Omega.{arith}
 use lib.Dec.{eqb, ltb, leb}
 use lib.ListN.{length, getD, take, drop, List·getD-eq-default}
@@ -12,8 +12,8 @@ use Rattle.cipher.specs.Block.{same}
 use Rattle.cipher.proofs.Xor.{same-true}
 use Rattle.incidence.proofs.Booleans.{and-left, and-right}
 use Rattle.incidence.proofs.Counting.{every, every-at}
-use Rattle.plane.proofs.Ranks.{above}
 use Rattle.plane.specs.Table.{itemCounts, planeItems, tagCounts, planeTags, limits, planeLimit, differenceLists, differences, patternLists, planePattern}
+use Rattle.plane.specs.Walk.{joined, above}
 
 -- below five or not
 pub five : {A : Type 0} (s : ℕ) → (s < 5 → A) → (5 ≤ s → A) → A
@@ -35,28 +35,28 @@ module _ (flat start : List ℕ) (n : ℕ) (f : ℕ → List ℕ) where
   partTest : ℕ → Bool
   partTest s = same (take (length (f s)) (drop (getD start s 0) flat)) (f s) && leb (getD start s 0 + length (f s)) n
 
-  module _ (past : (s : ℕ) → 5 ≤ s → f s ≡ []) (test : every partTest 5 ≡ true) (s k : ℕ) (h : k < length (f s)) where
-    part-passes : partTest s ≡ true
-    part-passes = five s (every-at partTest 5 test s) (λ u. absurd (let e : length (f s) ≡ 0 = ap length (past s u) in omega arith))
-
-    part-bound : getD start s 0 + k < n
+  module _ (five-starts : length start ≡ 5) (past : (s : ℕ) → 5 ≤ s → f s ≡ []) (test : every partTest 5 ≡ true) (s : ℕ) where
+    part-end : getD start s 0 + length (f s) ≤ n
     unfolding partTest
-    part-bound = omega (arith, leb-true _ n (and-right (same (take (length (f s)) (drop (getD start s 0) flat)) (f s)) _ part-passes))
+    part-end =
+        five s (λ u. leb-true _ n (and-right (same (take (length (f s)) (drop (getD start s 0) flat)) (f s)) _ (every-at partTest 5 test s u)))
+        (λ u. let b : length start ≤ s = omega arith in omega (arith, List·getD-eq-default start 0 b, ap length (past s u)))
 
-    part-at : getD flat (getD start s 0 + k) 0 ≡ getD (f s) k 0
+    part-is : take (length (f s)) (drop (getD start s 0) flat) ≡ f s
     unfolding partTest
-    part-at =
+    part-is =
+        five s (λ u. same-true _ (f s) (and-left (same (take (length (f s)) (drop (getD start s 0) flat)) (f s)) _ (every-at partTest 5 test s u)))
+        (λ u. rw (past s u))
+
+    part-at : (k : ℕ) → k < length (f s) → getD flat (getD start s 0 + k) 0 ≡ getD (f s) k 0
+    part-at k h =
         sym (getD-drop (getD start s 0) flat k 0)
         ∙ sym (getD-take (length (f s)) (drop (getD start s 0) flat) k 0 h)
-        ∙ ap (λ (l : List ℕ). getD l k 0) (same-true _ (f s) (and-left (same (take (length (f s)) (drop (getD start s 0) flat)) (f s)) _ part-passes))
+        ∙ ap (λ (l : List ℕ). getD l k 0) part-is
 
 -- ---- the tables
 
 -- the lists one after the other, as the code has them
-abbrev pub joined : List (List ℕ) → List ℕ
-joined [] = []
-joined (l ∷ ls) = l ++ joined ls
-
 unfoldable pub differenceTable : List ℕ
 differenceTable = joined differenceLists
 
@@ -93,17 +93,25 @@ patterns-test : every (partTest patternTable patternStarts 58 planePattern) 5 �
 unfolding partTest same planePattern patternLists patternTable
 patterns-test = refl
 
-pub difference-bound : (s k : ℕ) → k < length (differences s) → getD differenceStarts s 0 + k < 34
-difference-bound = part-bound differenceTable differenceStarts 34 differences no-differences differences-test
+-- a plane's part of the table of differences, as the code takes it
+module _ (s : ℕ) {at n : ℕ} (a : at ≡ getD differenceStarts s 0) (c : n ≡ getD (0 ∷ 3 ∷ 5 ∷ 9 ∷ 17 ∷ []) s 0) where
+  pub difference-end : at + n ≤ 34
+  difference-end = omega (arith, difference-count s, part-end differenceTable differenceStarts 34 differences refl no-differences differences-test s)
 
-pub difference-at : (s k : ℕ) → k < length (differences s) → getD differenceTable (getD differenceStarts s 0 + k) 0 ≡ getD (differences s) k 0
-difference-at = part-at differenceTable differenceStarts 34 differences no-differences differences-test
+  pub difference-room : {all : List ℕ} → all ≡ differenceTable → at + n ≤ length all
+  unfolding differenceTable differenceLists
+  difference-room t = omega (arith, difference-end, ap length t)
+
+  pub difference-part : {all r : List ℕ} → all ≡ differenceTable → r ≡ take (at + n - at) (drop at all) → r ≡ differences s
+  difference-part t e =
+      let size : at + n - at ≡ length (differences s) = omega (arith, difference-count s) in
+      rw (e, t, size, a) (part-is differenceTable differenceStarts 34 differences refl no-differences differences-test s)
 
 pub step-bound : (s k : ℕ) → k < length (planePattern s) → getD patternStarts s 0 + k < 58
-step-bound = part-bound patternTable patternStarts 58 planePattern no-pattern patterns-test
+step-bound s k h = omega (arith, part-end patternTable patternStarts 58 planePattern refl no-pattern patterns-test s)
 
 pub step-at : (s k : ℕ) → k < length (planePattern s) → getD patternTable (getD patternStarts s 0 + k) 0 ≡ getD (planePattern s) k 0
-step-at = part-at patternTable patternStarts 58 planePattern no-pattern patterns-test
+step-at = part-at patternTable patternStarts 58 planePattern refl no-pattern patterns-test
 
 -- ---- how large the numbers are
 

@@ -11,7 +11,7 @@ use Rattle.incidence.specs.Family.{Disjunct, Lawful}
 use Rattle.incidence.proofs.Pigeonhole.{pigeonhole}
 use Rattle.plane.specs.Table.{planeItems, planeTags, planeLimit, differences, planePattern}
 use Rattle.plane.specs.Plane.{plane, tagged, pairs, on}
-use Rattle.plane.proofs.Cyclic.{Rules, once-at, column-weight, row-weight, columns-share, pattern-yields, made-earlier}
+use Rattle.plane.proofs.Cyclic.{Rules, once-at, column-weight, row-weight, columns-share, rows-share, pattern-yields, made-earlier}
 use Rattle.plane.proofs.Rules.{rules}
 
 -- ---- the tags of rows
@@ -63,11 +63,16 @@ module _ (s : ℕ) (low : 1 ≤ s) (high : s ≤ 4) where
   unfolding plane
   items-of-row = row-weight (planeItems s) (planeTags s) (planeLimit s) (differences s) (planePattern s) R
 
-  -- "and two cards share at most one row": exactly one
+  -- "and two cards share at most one row": exactly one; and two rows one card (000, section 6.4, B)
   pub share-one-row : (j k : ℕ) → 1 ≤ j → j ≤ planeItems s → 1 ≤ k → k ≤ planeItems s → (k ≡ j → ⊥)
       → countUpTo (λ i. plane s .on i j && plane s .on i k) (planeItems s) ≡ 1
   unfolding plane
   share-one-row = columns-share (planeItems s) (planeTags s) (planeLimit s) (differences s) (planePattern s) R
+
+  pub share-one-item : (i k : ℕ) → 1 ≤ i → i ≤ planeItems s → 1 ≤ k → k ≤ planeItems s → (k ≡ i → ⊥)
+      → countUpTo (λ j. plane s .on i j && plane s .on k j) (planeItems s) ≡ 1
+  unfolding plane
+  share-one-item = rows-share (planeItems s) (planeTags s) (planeLimit s) (differences s) (planePattern s) R
 
   -- "Hence d-disjunct"
   pub disjunct : Disjunct (plane s) (planeLimit s)

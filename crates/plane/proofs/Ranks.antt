@@ -3,7 +3,8 @@ use mathlib.Core.Path.{_≡_, refl, sym, ap, ap₂, _∙_}
 use mathlib.Core.Bool.{Bool, true, false, _&&_, _||_}
 use mathlib.Core.List.{List, [], _∷_}
 use Prim.Native.Nat.{ℕ, zero, suc, _+_, _-_, _≤_, _<_}
-use native.Mathlib.Nat.{add-suc}
+use native.Mathlib.Nat.{add-suc, zero-add}
+use native.Mathlib.Numerals.{add-one}
 use native.Mathlib.Omega.{arith}
 use lib.Dec.{eqb, ltb, leb}
 use lib.ListN.{length, getD}
@@ -12,11 +13,7 @@ use Rattle.incidence.specs.Count.{indicator, countUpTo}
 use Rattle.incidence.proofs.Booleans.{and-left, and-right, or-first, or-second}
 use Rattle.incidence.proofs.Counting.{count-ext}
 use Rattle.plane.specs.Plane.{member, many}
-
--- the list rises from above b
-abbrev pub above : ℕ → List ℕ → Bool
-above b [] = true
-above b (e ∷ D) = ltb b e && above e D
+use Rattle.plane.specs.Walk.{above}
 
 -- every member is below m
 abbrev pub under : ℕ → List ℕ → Bool
@@ -210,6 +207,9 @@ count-down g a (suc n) =
     let z : countUpTo (λ k. g (a + suc k)) n ≡ countUpTo (λ k. g (suc a + k)) n =
     count-ext (λ k. g (a + suc k)) (λ k. g (suc a + k)) n (λ k l u. let w : a + suc k ≡ suc a + k = omega arith in ap g w) in
     rw (x, y) (omega (arith, count-down g (suc a) n, count-first (λ k. g (a + k)) n))
+
+pub count-back : (g : ℕ → Bool) (n : ℕ) → countUpTo (λ i. g (n + 1 - i)) n ≡ countUpTo g n
+count-back g n = rw (add-one n) (simp zero-add at (count-down g 0 n))
 
 -- ---- which side of a member a rank is on
 

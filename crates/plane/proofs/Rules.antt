@@ -10,7 +10,8 @@ use Rattle.incidence.specs.Family.{parity}
 use Rattle.incidence.proofs.Counting.{every, every-at}
 use Rattle.plane.specs.Table.{itemCounts, planeItems, tagCounts, planeTags, limits, planeLimit, differenceLists, differences, patternLists, planePattern}
 use Rattle.plane.specs.Plane.{pairs}
-use Rattle.plane.proofs.Ranks.{above, under}
+use Rattle.plane.specs.Walk.{above}
+use Rattle.plane.proofs.Ranks.{under}
 use Rattle.plane.proofs.Cyclic.{Rules, within, onceTest, patternTest}
 
 someTest : ℕ → Bool

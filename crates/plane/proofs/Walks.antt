@@ -1,45 +1,36 @@
 -- Where the rows of an item and the items of a row stand, in rising order, by ranks in the difference list.
 use mathlib.Core.Path.{_≡_, refl, sym, ap, _∙_, subst}
 use mathlib.Core.Bool.{Bool, true, false, _&&_}
-use mathlib.Core.List.{List, [], map}
-use Prim.Native.Nat.{ℕ, suc, _+_, _-_, _≤_, _<_, _%_}
+use mathlib.Core.List.{List, [], _++_, map}
+use Prim.Native.Nat.{ℕ, zero, suc, _+_, _-_, _≤_, _<_, _%_}
 use native.Mathlib.Nat.{add-mod-right, mod-eq-of-lt}
 use native.Mathlib.Omega.{arith}
 use lib.Dec.{ltb, leb}
-use lib.ListN.{length, getD, length-map, List·getD-eq-default}
+use lib.ListN.{length, getD, drop, length-map}
 use borrow.Author.Tests.{ltb-true, ltb-false, leb-true, leb-false, lt-ltb, le-ltb, le-leb, lt-leb}
 use Rattle.cipher.specs.Block.{if_then_else_}
 use Rattle.cipher.proofs.Loop.{map-at}
-use Rattle.incidence.specs.Count.{countUpTo, listed, inside}
+use Rattle.incidence.specs.Count.{indicator, countUpTo, listed, inside}
 use Rattle.incidence.specs.Family.{rowsOf, itemsOf}
-use Rattle.incidence.proofs.Booleans.{not-both}
-use Rattle.incidence.proofs.Counting.{inside-low, inside-high, count-ext, count-none}
-use Rattle.incidence.proofs.Listing.{listed-length, listed-rank}
+use Rattle.incidence.proofs.Counting.{inside-low, inside-high, count-ext}
+use Rattle.incidence.proofs.Listing.{Member, itemsOf-at, listed-at, listed-length, listed-rank}
 use Rattle.plane.specs.Table.{planeItems, planeTags, planeLimit, differences, planePattern}
 use Rattle.plane.specs.Plane.{member, on, made, tagged, plane}
-use Rattle.plane.proofs.Ranks.{rank, above-at, under-at, member-at, rank-at, rank-before, rank-most, rank-least, rank-length, count-add, count-down}
-use Rattle.plane.proofs.Lookup.{differences-rise, differences-few, some-low, some-high}
+use Rattle.plane.specs.Walk.{Walk, along}
+use Rattle.plane.proofs.Ranks.{rank, above-at, under-at, member-at, rank-before, rank-most, rank-least, rank-length, count-add, count-down}
+use Rattle.plane.proofs.Lookup.{items-most, differences-few, some-low, some-high}
 use Rattle.plane.proofs.Rules.{rules}
-use Rattle.plane.proofs.Cyclic.{Rules, within-at, on-inside, hit, count-hits, count-all, count-turn, column-weight, row-weight}
+use Rattle.plane.proofs.Cyclic.{Rules, within-at, on-inside, turned, hit, count-hits, count-turn, column-weight, row-weight}
 
--- ---- rows of an item, items of a row
+-- a number that passes stands behind those before it that do
+stands : (p : ℕ → Bool) (n x k : ℕ) → 1 ≤ x → x ≤ n → p x ≡ true → countUpTo p (x - 1) ≡ k → getD (listed p n) k 0 ≡ x
+stands p n x k l u o e = subst (λ (y : ℕ). getD (listed p n) y 0 ≡ x) e (listed-rank p n x l u o)
+
+-- ---- items of a row, rows of an item
 
 module _ (m t d : ℕ) (D P : List ℕ) (R : Rules m t d D P) where
   H : ℕ → Bool
   H = hit m t d D P R
-
-  -- the rows before row i that hold item j
-  before-row : (i j : ℕ) → 1 ≤ i → i ≤ m → 1 ≤ j → j ≤ m
-      → countUpTo (λ r. on m D r j) (i - 1) + countUpTo H (j + m - i) ≡ suc d + rank D (j - 1)
-  unfolding H
-  before-row i j li ui lj uj =
-      let e : j + m ≡ j + m - i + suc (i - 1) = omega arith in
-      let f : j + m - i + (i - 1) ≡ m + (j - 1) = omega arith in
-      let g : countUpTo (λ r. on m D r j) (i - 1) ≡ countUpTo (λ k. H (j + m - i + k)) (i - 1) =
-      count-ext (λ r. on m D r j) (λ r. H (j + m - i + suc (i - 1) - r)) (i - 1)
-      (λ r a b. on-inside m D r j a (omega arith) lj uj ∙ ap (λ (x : ℕ). H (x - r)) e)
-      ∙ count-down H (j + m - i) (i - 1) in
-      omega (arith, g, count-add H (j + m - i) (i - 1), ap (countUpTo H) f, count-turn m t d D P R (j - 1), count-hits m t d D P R (j - 1) (omega arith))
 
   -- the items 1 to n that row i holds
   first-items : (i n : ℕ) → 1 ≤ i → i ≤ m → n ≤ m → countUpTo (on m D i) n + rank D (m - i) ≡ countUpTo H (m - i + n)
@@ -58,69 +49,9 @@ module _ (m t d : ℕ) (D P : List ℕ) (R : Rules m t d D P) where
   small : (k : ℕ) → k < length D → getD D k 0 % m ≡ getD D k 0
   small k l = mod-eq-of-lt (under-at m D (R .below) k l)
 
-  module _ (j : ℕ) (lj : 1 ≤ j) (uj : j ≤ m) where
-    pub rows-length : length (listed (λ i. on m D i j) m) ≡ length D
-    rows-length = listed-length (λ i. on m D i j) m ∙ column-weight m t d D P R j lj uj ∙ sym (R .size)
-
-    -- those below row j are as many as the differences below j
-    pub rows-under : countUpTo (λ i. on m D i j) (j - 1) ≡ rank D (j - 1)
-    unfolding H
-    rows-under = let f : j + m - j ≡ m = omega arith in omega (arith, before-row j j lj uj lj uj, ap (countUpTo H) f, count-all m t d D P R)
-
-    row-stands : (i k : ℕ) → 1 ≤ i → i ≤ m → on m D i j ≡ true → countUpTo (λ r. on m D r j) (i - 1) ≡ k
-        → getD (listed (λ r. on m D r j) m) k 0 ≡ i
-    row-stands i k l u o e =
-        subst (λ (x : ℕ). getD (listed (λ r. on m D r j) m) x 0 ≡ i) e (listed-rank (λ r. on m D r j) m i l u o)
-
-    -- a difference e below j leads to row j − e
-    row-by-below : (k n e : ℕ) → n < length D → e ≡ getD D n 0 → e ≤ j - 1 → suc (n + k) ≡ rank D (j - 1)
-        → getD (listed (λ i. on m D i j) m) k 0 ≡ j - e
-    unfolding H
-    row-by-below k n e l q u r =
-        let lo : 0 < getD D n 0 = above-at 0 D (R .rises) n l in
-        let f : j + m - (j - e) ≡ m + e = omega arith in
-        let g : m + e ≡ e + m = omega arith in
-        row-stands (j - e) k (omega arith) (omega arith)
-        (on-difference (j - e) j n (omega arith) (omega arith) lj uj l (ap (λ (x : ℕ). x % m) (f ∙ g) ∙ add-mod-right e m ∙ ap (λ (x : ℕ). x % m) q ∙ small n l))
-        (omega (
-          arith,
-          before-row (j - e) j (omega arith) (omega arith) lj uj,
-          ap (countUpTo H) f,
-          count-turn m t d D P R e,
-          count-hits m t d D P R e (omega arith),
-          ap (rank D) q,
-          rank-at 0 D (R .rises) n l,
-        ))
-
-    -- another leads to row j + m − e
-    row-by-behind : (k n e : ℕ) → n < length D → e ≡ getD D n 0 → j ≤ e → n + suc k ≡ d + suc (rank D (j - 1))
-        → getD (listed (λ i. on m D i j) m) k 0 ≡ j + m - e
-    unfolding H
-    row-by-behind k n e l q u r =
-        let hi : getD D n 0 < m = under-at m D (R .below) n l in
-        let f : j + m - (j + m - e) ≡ e = omega arith in
-        row-stands (j + m - e) k (omega arith) (omega arith)
-        (on-difference (j + m - e) j n (omega arith) (omega arith) lj uj l (ap (λ (x : ℕ). x % m) (f ∙ q) ∙ small n l))
-        (omega (
-          arith,
-          before-row (j + m - e) j (omega arith) (omega arith) lj uj,
-          ap (countUpTo H) f,
-          count-hits m t d D P R e (omega arith),
-          ap (rank D) q,
-          rank-at 0 D (R .rises) n l,
-        ))
-
   module _ (i : ℕ) (li : 1 ≤ i) (ui : i ≤ m) where
     pub items-length : length (listed (on m D i) m) ≡ length D
     items-length = listed-length (on m D i) m ∙ row-weight m t d D P R i li ui ∙ sym (R .size)
-
-    -- those up to item i are as many as the differences above m − i
-    pub items-under : countUpTo (on m D i) i + rank D (m - i) ≡ length D
-    unfolding H
-    items-under = let f : m - i + i ≡ m = omega arith in omega (arith, first-items i i li ui ui, ap (countUpTo H) f, count-all m t d D P R, R .size)
-
-    item-stands : (j k : ℕ) → 1 ≤ j → j ≤ m → on m D i j ≡ true → countUpTo (on m D i) (j - 1) ≡ k → getD (listed (on m D i) m) k 0 ≡ j
-    item-stands j k l u o e = subst (λ (x : ℕ). getD (listed (on m D i) m) x 0 ≡ j) e (listed-rank (on m D i) m j l u o)
 
     -- a difference e above m − i goes round to item i + e − m
     item-by-round : (k n e : ℕ) → n < length D → e ≡ getD D n 0 → m - i < e → n ≡ rank D (m - i) + k
@@ -130,7 +61,7 @@ module _ (m t d : ℕ) (D P : List ℕ) (R : Rules m t d D P) where
         let hi : getD D n 0 < m = under-at m D (R .below) n l in
         let f : i + e - m + m - i ≡ e = omega arith in
         let g : m - i + (i + e - m - 1) ≡ e - 1 = omega arith in
-        item-stands (i + e - m) k (omega arith) (omega arith)
+        stands (on m D i) m (i + e - m) k (omega arith) (omega arith)
         (on-difference i (i + e - m) n li ui (omega arith) (omega arith) l (ap (λ (x : ℕ). x % m) (f ∙ q) ∙ small n l))
         (omega (
           arith,
@@ -150,7 +81,7 @@ module _ (m t d : ℕ) (D P : List ℕ) (R : Rules m t d D P) where
         let hi : getD D n 0 < m = under-at m D (R .below) n l in
         let f : i + e + m - i ≡ e + m = omega arith in
         let g : m - i + (i + e - 1) ≡ m + (e - 1) = omega arith in
-        item-stands (i + e) k (omega arith) (omega arith)
+        stands (on m D i) m (i + e) k (omega arith) (omega arith)
         (on-difference i (i + e) n li ui (omega arith) (omega arith) l (ap (λ (x : ℕ). x % m) f ∙ add-mod-right e m ∙ ap (λ (x : ℕ). x % m) q ∙ small n l))
         (omega (
           arith,
@@ -160,6 +91,46 @@ module _ (m t d : ℕ) (D P : List ℕ) (R : Rules m t d D P) where
           count-hits m t d D P R (e - 1) (omega arith),
           ap (λ (x : ℕ). rank D (x - 1)) q,
           rank-before 0 D (R .rises) n l,
+        ))
+
+    -- the rows of item m + 1 − i are the items of row i, each counted from the other end
+    rows-length : length (listed (λ r. on m D r (m + 1 - i)) m) ≡ length D
+    rows-length = listed-length (λ r. on m D r (m + 1 - i)) m ∙ column-weight m t d D P R (m + 1 - i) (omega arith) (omega arith) ∙ sym (R .size)
+
+    held : (r : ℕ) → 1 ≤ r → r ≤ m → on m D r (m + 1 - i) ≡ on m D i (m + 1 - r)
+    held r l u =
+        let e : m + 1 - (m + 1 - i) ≡ i = omega arith in
+        turned m D r (m + 1 - i) l u (omega arith) (omega arith) ∙ ap (λ (x : ℕ). on m D x (m + 1 - r)) e
+
+    row-back : (k x : ℕ) → k < length D → x ≡ getD (listed (on m D i) m) (length D - 1 - k) 0
+        → getD (listed (λ r. on m D r (m + 1 - i)) m) k 0 ≡ m + 1 - x
+    row-back k x h q =
+        let M : Member (on m D i) m (length D - 1 - k) x
+        = subst (Member (on m D i) m (length D - 1 - k)) (sym q)
+        (listed-at (on m D i) m (length D - 1 - k) (omega (arith, row-weight m t d D P R i li ui, R .size))) in
+        let y : m + 1 - (m + 1 - x) ≡ x = omega (arith, M .high) in
+        let e : m + 1 - x - 1 ≡ m - x = omega arith in
+        let g : x + suc (m - x) ≡ m + 1 = omega (arith, M .high) in
+        let z : x + (m - x) ≡ m = omega (arith, M .high) in
+        let w : suc (x - 1) ≡ x = omega (arith, M .low) in
+        let back : countUpTo (λ r. on m D r (m + 1 - i)) (m - x) ≡ countUpTo (λ k. on m D i (x + k)) (m - x)
+        = count-ext (λ r. on m D r (m + 1 - i)) (λ r. on m D i (x + suc (m - x) - r)) (m - x)
+        (λ r a b. held r a (omega arith) ∙ ap (λ (v : ℕ). on m D i (v - r)) (sym g))
+        ∙ count-down (on m D i) x (m - x) in
+        stands (λ r. on m D r (m + 1 - i)) m (m + 1 - x) k (omega (arith, M .high)) (omega (arith, M .low))
+        (held (m + 1 - x) (omega (arith, M .high)) (omega (arith, M .low)) ∙ ap (on m D i) y ∙ M .passes)
+        (omega (
+          arith,
+          ap (countUpTo (λ r. on m D r (m + 1 - i))) e,
+          back,
+          count-add (on m D i) x (m - x),
+          ap (countUpTo (on m D i)) z,
+          ap (countUpTo (on m D i)) w,
+          ap (λ (v : ℕ). indicator (on m D i v)) w,
+          ap indicator (M .passes),
+          M .rank,
+          row-weight m t d D P R i li ui,
+          R .size,
         ))
 
 -- ---- out of range
@@ -176,224 +147,125 @@ on-no-item m D i j e = rw e (go (inside m i))
     go true = refl
     go false = refl
 
-none-pass : (p : ℕ → Bool) (n : ℕ) → ((i : ℕ) → p i ≡ false) → countUpTo p n ≡ 0
-none-pass p n h = count-none p n (λ i l u t. not-both (p i) t (h i))
+none-listed : (p : ℕ → Bool) (n : ℕ) → ((i : ℕ) → p i ≡ false) → listed p n ≡ []
+none-listed p zero h = refl
+none-listed p (suc n) h = rw (h (suc n)) (none-listed p n h)
 
-listed-none : (p : ℕ → Bool) (n : ℕ) → ((i : ℕ) → p i ≡ false) → length (listed p n) ≡ 0
-listed-none p n h = listed-length p n ∙ none-pass p n h
+module _ (s j : ℕ) (out : inside (planeItems s) j ≡ false) where
+  pub rows-out : rowsOf (plane s) j ≡ []
+  unfolding plane rowsOf
+  rows-out = none-listed _ (planeItems s) (λ i. on-no-item (planeItems s) (differences s) i j out)
+
+  pub items-out : itemsOf (plane s) j ≡ []
+  unfolding plane itemsOf
+  items-out = none-listed _ (planeItems s) (λ i. on-no-row (planeItems s) (differences s) j i out)
 
 -- ---- by s, as the code goes
 
--- a number inside a plane's range has that plane's rules
-inside-rules : (s j : ℕ) → inside (planeItems s) j ≡ true → Rules (planeItems s) (planeTags s) (planeLimit s) (differences s) (planePattern s)
-inside-rules s j e =
-    let l : 1 ≤ j = inside-low (planeItems s) j e in
-    let u : j ≤ planeItems s = inside-high (planeItems s) j e in
-    rules s (some-low s (omega arith)) (some-high s (omega arith))
+module _ {s i turn : ℕ} {D : List ℕ} (W : Walk s i D turn) where
+  pub few : length D ≤ 17
+  few = omega (arith, ap length (W .list), differences-few s)
 
-module _ (s j : ℕ) where
-  pub rows-in : inside (planeItems s) j ≡ true → length (rowsOf (plane s) j) ≡ length (differences s)
-  unfolding plane rowsOf
-  rows-in e =
-      rows-length (planeItems s) (planeTags s) (planeLimit s) (differences s) (planePattern s) (inside-rules s j e) j (inside-low (planeItems s) j e) (inside-high (planeItems s) j e)
+  walk-rules : Rules (planeItems s) (planeTags s) (planeLimit s) D (planePattern s)
+  walk-rules =
+      subst (λ (L : List ℕ). Rules (planeItems s) (planeTags s) (planeLimit s) L (planePattern s)) (sym (W .list))
+      (rules s (some-low s (omega (arith, W .low, W .high))) (some-high s (omega (arith, W .low, W .high))))
 
-  pub rows-out : inside (planeItems s) j ≡ false → length (rowsOf (plane s) j) ≡ 0
-  unfolding plane rowsOf
-  rows-out e = listed-none _ (planeItems s) (λ i. on-no-item (planeItems s) (differences s) i j e)
+  pub walk-turn : turn ≤ length D
+  walk-turn = omega (arith, W .place, rank-length D (planeItems s - i))
 
-  pub items-in : inside (planeItems s) j ≡ true → length (itemsOf (plane s) j) ≡ length (differences s)
+  pub difference-high : {k e : ℕ} → k < length D → e ≡ getD D k 0 → e ≤ 273
+  difference-high {k} h q = omega (arith, under-at (planeItems s) D (walk-rules .below) k h, items-most s)
+
+  items-are : listed (on (planeItems s) D i) (planeItems s) ≡ itemsOf (plane s) i
   unfolding plane itemsOf
-  items-in e =
-      items-length (planeItems s) (planeTags s) (planeLimit s) (differences s) (planePattern s) (inside-rules s j e) j (inside-low (planeItems s) j e) (inside-high (planeItems s) j e)
+  items-are = ap (λ (L : List ℕ). listed (on (planeItems s) L i) (planeItems s)) (W .list)
 
-  pub items-out : inside (planeItems s) j ≡ false → length (itemsOf (plane s) j) ≡ 0
-  unfolding plane itemsOf
-  items-out e = listed-none _ (planeItems s) (λ i. on-no-row (planeItems s) (differences s) j i e)
+  pub walk-length : (back : Bool) → length (along s i back) ≡ length D
+  unfolding along plane rowsOf
+  walk-length true =
+      ap (λ (L : List ℕ). length (listed (λ r. on (planeItems s) L r (planeItems s + 1 - i)) (planeItems s))) (sym (W .list))
+      ∙ rows-length (planeItems s) (planeTags s) (planeLimit s) D (planePattern s) walk-rules i (W .low) (W .high)
+  walk-length false =
+      ap length (sym items-are) ∙ items-length (planeItems s) (planeTags s) (planeLimit s) D (planePattern s) walk-rules i (W .low) (W .high)
 
-  pub below-in : inside (planeItems s) j ≡ true → countUpTo (λ i. plane s .on i j) (j - 1) ≡ rank (differences s) (j - 1)
-  unfolding plane
-  below-in e =
-      rows-under (planeItems s) (planeTags s) (planeLimit s) (differences s) (planePattern s) (inside-rules s j e) j (inside-low (planeItems s) j e) (inside-high (planeItems s) j e)
+  pub walk-high : {k x : ℕ} → k < length D → x ≡ getD (itemsOf (plane s) i) k 0 → x ≤ planeItems s
+  unfolding plane along
+  walk-high {k} {x} h q = omega (arith, itemsOf-at (plane s) i k (omega (arith, walk-length false)) .high)
 
-  pub below-out : inside (planeItems s) j ≡ false → countUpTo (λ i. plane s .on i j) (j - 1) ≡ 0
-  unfolding plane
-  below-out e = none-pass (λ i. plane s .on i j) (j - 1) (λ i. on-no-item (planeItems s) (differences s) i j e)
+  module _ {k : ℕ} (h : k < length D) where
+    -- the row at place k of the item that stands as far from the end
+    pub walk-back : {x m : ℕ} → m ≡ planeItems s → x ≡ getD (itemsOf (plane s) i) (length D - 1 - k) 0 → m + 1 - x ≡ getD (along s i true) k 0
+    unfolding along plane rowsOf
+    walk-back {x} o q =
+        let e : x ≡ getD (listed (on (planeItems s) D i) (planeItems s)) (length D - 1 - k) 0
+        = q ∙ ap (λ (L : List ℕ). getD L (length D - 1 - k) 0) (sym items-are) in
+        ap (λ (v : ℕ). v + 1 - x) o
+        ∙ sym (row-back (planeItems s) (planeTags s) (planeLimit s) D (planePattern s) walk-rules i (W .low) (W .high) k x h e)
+        ∙ ap (λ (L : List ℕ). getD (listed (λ r. on (planeItems s) L r (planeItems s + 1 - i)) (planeItems s)) k 0) (W .list)
 
-  pub upto-in : inside (planeItems s) j ≡ true → countUpTo (plane s .on j) j + rank (differences s) (planeItems s - j) ≡ length (differences s)
-  unfolding plane
-  upto-in e =
-      items-under (planeItems s) (planeTags s) (planeLimit s) (differences s) (planePattern s) (inside-rules s j e) j (inside-low (planeItems s) j e) (inside-high (planeItems s) j e)
+    -- the item at place k: the differences from place `turn` on, and then the others
+    module _ {e : ℕ} (l : turn + k < length D) (w : e ≡ getD D (turn + k) 0) where
+      leads-past : planeItems s - i < e
+      leads-past = omega (arith, rank-least 0 D (walk-rules .rises) (planeItems s - i) (turn + k) l (omega (arith, W .place)))
 
-  pub upto-out : inside (planeItems s) j ≡ false → countUpTo (plane s .on j) j ≡ 0
-  unfolding plane
-  upto-out e = none-pass (plane s .on j) j (λ i. on-no-row (planeItems s) (differences s) j i e)
+      pub round-past : {m : ℕ} → m ≡ planeItems s → m ≤ i + e
+      round-past o = omega (arith, leads-past)
 
--- below or not
-by-side : {A : Type 0} (k p : ℕ) → (k < p → A) → (p ≤ k → A) → A
-by-side {A} k p f g = go (ltb k p) refl
+      pub round-item : {m : ℕ} → m ≡ planeItems s → i + e - m ≡ getD (itemsOf (plane s) i) k 0
+      round-item o =
+          ap (λ (v : ℕ). i + e - v) o
+          ∙ sym (item-by-round (planeItems s) (planeTags s) (planeLimit s) D (planePattern s) walk-rules i (W .low) (W .high)
+          k (turn + k) e l w leads-past (omega (arith, W .place)))
+          ∙ ap (λ (L : List ℕ). getD L k 0) items-are
+
+    module _ (l : length D ≤ turn + k) where
+      pub ahead-place : turn + k - length D < length D
+      ahead-place = omega (arith, walk-turn)
+
+      pub ahead-item : {e : ℕ} → e ≡ getD D (turn + k - length D) 0 → i + e ≡ getD (itemsOf (plane s) i) k 0
+      ahead-item {e} w =
+          let u : e ≤ planeItems s - i
+          = omega (arith, rank-most 0 D (walk-rules .rises) (planeItems s - i) (turn + k - length D) ahead-place (omega (arith, W .place))) in
+          sym (item-by-ahead (planeItems s) (planeTags s) (planeLimit s) D (planePattern s) walk-rules i (W .low) (W .high)
+          k (turn + k - length D) e ahead-place w u (omega (arith, W .place, walk-rules .size)))
+          ∙ ap (λ (L : List ℕ). getD L k 0) items-are
+
+-- what the code's tests and calls establish
+pub walk-of : {s i m turn : ℕ} {D : List ℕ} → 1 ≤ i → i ≤ planeItems s → m ≡ planeItems s → D ≡ differences s → turn ≡ rank D (m - i) → Walk s i D turn
+walk-of {s} {i} {m} {turn} {D} l u o e p =
+    record { low = l; high = u; list = e; place = p ∙ ap (λ (v : ℕ). rank D (v - i)) o }
+
+-- both lists fit into a buffer of 17, whatever s and the number
+by-inside : {A : Type 0} (s i : ℕ) → (1 ≤ i → i ≤ planeItems s → A) → (inside (planeItems s) i ≡ false → A) → A
+by-inside {A} s i f g = go (inside (planeItems s) i) refl
   where
-    go : (b : Bool) → ltb k p ≡ b → A
-    go true e = f (ltb-true k p e)
-    go false e = g (ltb-false k p e)
+    go : (b : Bool) → inside (planeItems s) i ≡ b → A
+    go true e = f (inside-low (planeItems s) i e) (inside-high (planeItems s) i e)
+    go false e = g e
 
--- what is listed is inside
-if-listed : (s j n : ℕ) → (inside (planeItems s) j ≡ false → n ≡ 0) → (k : ℕ) → k < n → inside (planeItems s) j ≡ true
-if-listed s j n out k h = go (inside (planeItems s) j) refl
-  where
-    go : (b : Bool) → inside (planeItems s) j ≡ b → inside (planeItems s) j ≡ true
-    go true e = e
-    go false e = absurd (omega (arith, out e))
+few-along : (s i : ℕ) → 1 ≤ i → i ≤ planeItems s → (back : Bool) → length (along s i back) ≤ 17
+few-along s i l u back = let W : Walk s i (differences s) _ = walk-of l u refl refl refl in omega (arith, few W, walk-length W back)
 
--- a difference, and the 0 past the last, is at most the size of a plane that has numbers inside
-difference-most : (s j : ℕ) → inside (planeItems s) j ≡ true → (x e : ℕ) → e ≡ getD (differences s) x 0 → e ≤ planeItems s
-difference-most s j i x e r = go (ltb x (length (differences s))) refl
-  where
-    go : (b : Bool) → ltb x (length (differences s)) ≡ b → e ≤ planeItems s
-    go true t = omega (arith, under-at (planeItems s) (differences s) (inside-rules s j i .below) x (ltb-true x (length (differences s)) t))
-    go false t = omega (arith, List·getD-eq-default (differences s) 0 (ltb-false x (length (differences s)) t))
+pub item-list-few : (s i : ℕ) → length (itemsOf (plane s) i) ≤ 17
+unfolding along
+item-list-few s i = by-inside s i (λ l u. few-along s i l u false) (λ e. omega (arith, ap length (items-out s i e)))
 
--- where x leads, counting from 1 to m and on again from 1
-abbrev Leads : ℕ → ℕ → ℕ → Type 0
-Leads m x r = (m < x → r ≡ x - m) × (x ≤ m → r ≡ x)
+pub row-list-few : (s j : ℕ) → length (rowsOf (plane s) j) ≤ 17
+unfolding along
+row-list-few s j =
+    by-inside s j
+    (λ l u. let e : planeItems s + 1 - (planeItems s + 1 - j) ≡ j = omega arith in
+    omega (arith, few-along s (planeItems s + 1 - j) (omega arith) (omega arith) true, ap (λ (x : ℕ). length (rowsOf (plane s) x)) e))
+    (λ e. omega (arith, ap length (rows-out s j e)))
 
--- the row at place k of item j. p stands for how many of the item's n rows are below j, m for how many rows there are, and a for the
--- difference's place, from 1: the first p of the differences from the last, and then the others from the last
-module _ (s j k n m : ℕ) (h : k < n) (c : n ≡ length (rowsOf (plane s) j)) (o : m ≡ planeItems s) where
-  row-inside : inside (planeItems s) j ≡ true
-  row-inside = if-listed s j (length (rowsOf (plane s) j)) (rows-out s j) k (omega arith)
+-- what the walk leaves in a buffer, by another name of the list or for none
+pub written-as : (o : List ℕ) {l w out : List ℕ} {n : ℕ} → w ≡ l → (out ≡ w ++ drop (length w) o) × (n ≡ length w)
+    → (out ≡ l ++ drop (length l) o) × (n ≡ length l)
+written-as o {l} {w} {out} {n} e h = subst (λ (x : List ℕ). (out ≡ x ++ drop (length x) o) × (n ≡ length x)) e h
 
-  row-item-low : 1 ≤ j
-  row-item-low = inside-low (planeItems s) j row-inside
-
-  pub row-item-high : j ≤ m
-  row-item-high = omega (arith, inside-high (planeItems s) j row-inside)
-
-  pub row-few : n ≤ 17
-  row-few = omega (arith, rows-in s j row-inside, differences-few s)
-
-  pub row-difference : (x e : ℕ) → e ≡ getD (differences s) x 0 → e ≤ m
-  row-difference x e r = omega (arith, difference-most s j row-inside x e r)
-
-  row-rules : Rules (planeItems s) (planeTags s) (planeLimit s) (differences s) (planePattern s)
-  row-rules = inside-rules s j row-inside
-
-  module _ (p a : ℕ) (f : p ≤ n) (t : Leads n (p + n - k) a) where
-    below-place : k < p → a ≡ p - k
-    below-place l = omega (arith, t .0 (omega arith))
-
-    behind-place : p ≤ k → a ≡ p + n - k
-    behind-place l = t .1 (omega arith)
-
-    pub row-place-low : 1 ≤ a
-    row-place-low = by-side k p (λ l. omega (arith, below-place l)) (λ l. omega (arith, behind-place l))
-
-    pub row-place : a - 1 < length (differences s)
-    row-place =
-        by-side k p (λ l. omega (arith, below-place l, rows-in s j row-inside)) (λ l. omega (arith, behind-place l, rows-in s j row-inside))
-
-    module _ (e r : ℕ) (w : e ≡ getD (differences s) (a - 1) 0) (g : Leads m (j + m - e) r) (q : p ≡ countUpTo (λ i. plane s .on i j) (j - 1)) where
-      turn : p ≡ rank (differences s) (j - 1)
-      turn = q ∙ below-in s j row-inside
-
-      below-row : k < p → r ≡ getD (rowsOf (plane s) j) k 0
-      unfolding plane rowsOf
-      below-row l =
-          let u : e ≤ j - 1 =
-          omega (arith, rank-most 0 (differences s) (differences-rise s) (j - 1) (a - 1) row-place (omega (arith, turn, below-place l))) in
-          let y : r ≡ j - e = omega (arith, g .0 (omega (arith, row-item-low))) in
-          y
-          ∙ sym (row-by-below (planeItems s) (planeTags s) (planeLimit s) (differences s) (planePattern s) row-rules j row-item-low (omega (arith, row-item-high))
-          k (a - 1) e row-place w u (omega (arith, turn, below-place l)))
-
-      behind-row : p ≤ k → r ≡ getD (rowsOf (plane s) j) k 0
-      unfolding plane rowsOf
-      behind-row l =
-          let u : j - 1 < e =
-          omega (arith, rank-least 0 (differences s) (differences-rise s) (j - 1) (a - 1) row-place (omega (arith, turn, behind-place l, row-place-low))) in
-          let y : r ≡ j + planeItems s - e = omega (arith, g .1 (omega arith)) in
-          y
-          ∙ sym (row-by-behind (planeItems s) (planeTags s) (planeLimit s) (differences s) (planePattern s) row-rules j row-item-low (omega (arith, row-item-high))
-          k (a - 1) e row-place w (omega arith) (omega (arith, turn, behind-place l, rows-in s j row-inside, row-rules .size)))
-
-      pub row-is : r ≡ getD (rowsOf (plane s) j) k 0
-      row-is = by-side k p below-row behind-row
-
--- the item at place k of row i, likewise: p stands for how many of the row's n items are up to i, and a for the difference's place: the last
--- p of the differences and then the others
-module _ (s i k n m : ℕ) (h : k < n) (c : n ≡ length (itemsOf (plane s) i)) (o : m ≡ planeItems s) where
-  item-inside : inside (planeItems s) i ≡ true
-  item-inside = if-listed s i (length (itemsOf (plane s) i)) (items-out s i) k (omega arith)
-
-  item-row-low : 1 ≤ i
-  item-row-low = inside-low (planeItems s) i item-inside
-
-  pub item-row-high : i ≤ m
-  item-row-high = omega (arith, inside-high (planeItems s) i item-inside)
-
-  pub item-few : n ≤ 17
-  item-few = omega (arith, items-in s i item-inside, differences-few s)
-
-  pub item-difference : (x e : ℕ) → e ≡ getD (differences s) x 0 → e ≤ m
-  item-difference x e r = omega (arith, difference-most s i item-inside x e r)
-
-  item-rules : Rules (planeItems s) (planeTags s) (planeLimit s) (differences s) (planePattern s)
-  item-rules = inside-rules s i item-inside
-
-  module _ (p a : ℕ) (f : p ≤ n) (t : Leads n (n - p + k + 1) a) where
-    round-place : k < p → a ≡ n - p + k + 1
-    round-place l = t .1 (omega arith)
-
-    ahead-place : p ≤ k → a ≡ k - p + 1
-    ahead-place l = omega (arith, t .0 (omega arith))
-
-    pub item-place-low : 1 ≤ a
-    item-place-low = by-side k p (λ l. omega (arith, round-place l)) (λ l. omega (arith, ahead-place l))
-
-    pub item-place : a - 1 < length (differences s)
-    item-place =
-        by-side k p (λ l. omega (arith, round-place l, items-in s i item-inside)) (λ l. omega (arith, ahead-place l, items-in s i item-inside))
-
-    module _ (e r : ℕ) (w : e ≡ getD (differences s) (a - 1) 0) (g : Leads m (i + e) r) (q : p ≡ countUpTo (plane s .on i) i) where
-      turned : p + rank (differences s) (planeItems s - i) ≡ length (differences s)
-      turned = omega (arith, upto-in s i item-inside)
-
-      round-item : k < p → r ≡ getD (itemsOf (plane s) i) k 0
-      unfolding plane itemsOf
-      round-item l =
-          let u : planeItems s - i < e =
-          omega (arith, rank-least 0 (differences s) (differences-rise s) (planeItems s - i) (a - 1) item-place (omega (arith, turned, round-place l, items-in s i item-inside))) in
-          let y : r ≡ i + e - planeItems s = omega (arith, g .0 (omega arith)) in
-          y
-          ∙ sym (item-by-round (planeItems s) (planeTags s) (planeLimit s) (differences s) (planePattern s) item-rules i item-row-low (omega (arith, item-row-high))
-          k (a - 1) e item-place w u (omega (arith, turned, round-place l, items-in s i item-inside)))
-
-      ahead-item : p ≤ k → r ≡ getD (itemsOf (plane s) i) k 0
-      unfolding plane itemsOf
-      ahead-item l =
-          let u : e ≤ planeItems s - i =
-          omega (arith, rank-most 0 (differences s) (differences-rise s) (planeItems s - i) (a - 1) item-place (omega (arith, turned, ahead-place l, items-in s i item-inside))) in
-          let y : r ≡ i + e = g .1 (omega (arith, item-row-high)) in
-          y
-          ∙ sym (item-by-ahead (planeItems s) (planeTags s) (planeLimit s) (differences s) (planePattern s) item-rules i item-row-low (omega (arith, item-row-high))
-          k (a - 1) e item-place w u (omega (arith, turned, ahead-place l, item-rules .size)))
-
-      pub item-is : r ≡ getD (itemsOf (plane s) i) k 0
-      item-is = by-side k p round-item ahead-item
-
--- how many of them there are, whatever the place
-pub below-few : (s j n : ℕ) → n ≡ length (rowsOf (plane s) j) → countUpTo (λ i. plane s .on i j) (j - 1) ≤ n
-below-few s j n c = go (inside (planeItems s) j) refl
-  where
-    go : (b : Bool) → inside (planeItems s) j ≡ b → countUpTo (λ i. plane s .on i j) (j - 1) ≤ n
-    go true e = omega (arith, below-in s j e, rows-in s j e, rank-length (differences s) (j - 1))
-    go false e = omega (arith, below-out s j e)
-
-pub upto-few : (s i n : ℕ) → n ≡ length (itemsOf (plane s) i) → countUpTo (plane s .on i) i ≤ n
-upto-few s i n c = go (inside (planeItems s) i) refl
-  where
-    go : (b : Bool) → inside (planeItems s) i ≡ b → countUpTo (plane s .on i) i ≤ n
-    go true e = omega (arith, upto-in s i e, items-in s i e)
-    go false e = omega (arith, upto-out s i e)
+pub written-none : (o : List ℕ) {l : List ℕ} → l ≡ [] → (o ≡ l ++ drop (length l) o) × (0 ≡ length l)
+written-none o e = written-as o (sym e) (refl, refl)
 
 -- ---- made rows
 

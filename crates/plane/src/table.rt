@@ -1,10 +1,12 @@
 // Document 01, Planes: the constants of the four planes by s, 1 to 4. The tables are the lists of specs/Table.antt, whose rules are
 // proved by computation (proofs/Rules.antt).
 ghost use mathlib.Core.Path.{_≡_};
+ghost use mathlib.Core.Bool.{true};
 ghost use Prim.Native.Nat.{_<_};
 ghost use lib.ListN.{length, getD};
-ghost use Rattle.plane.specs.Table.{planeItems, planeTags, planeLimit, differences, planePattern};
+ghost use Rattle.plane.specs.Table.{planeItems, planeTags, planeLimit, differenceLists, differences, planePattern};
 ghost use Rattle.plane.specs.Plane.{many};
+ghost use Rattle.plane.specs.Walk.{joined, above};
 ghost use lib.Dec.{leb};
 
 // A column of document 01's table each, from s = 0 on.
@@ -15,7 +17,7 @@ const TAGS: [usize; 5] = [0, 4, 10, 28, 82];
 const LIMITS: [usize; 5] = [0, 2, 4, 8, 16];
 
 // The four difference lists, one after the other, where each starts and how many entries it has.
-const DIFFERENCES: [u16; 34] = [
+pub const DIFFERENCES: [u16; 34] = [
     1,
     2,
     4,
@@ -130,12 +132,21 @@ fn from_u16(x: u16) -> usize
     x as usize
 }
 
-// An entry of the table of differences.
-fn entry(t: &[u16; 34], k: usize) -> usize
-    requires { ⌜ (k < 34) × (length (now t) ≡ 34) ⌝ }
-    ensures { λ r. ⌜ r ≡ getD (now (t .entry)) k 0 ⌝ }
+// The number at place k of a list.
+pub fn read(d: &[u16], k: usize) -> usize
+    requires { ⌜ k < length (now d) ⌝ }
+    ensures { λ r. ⌜ r ≡ getD (now (d .entry)) k 0 ⌝ }
 {
-    from_u16(t[k])
+    from_u16(d[k])
+}
+
+// The differences, in the table of all. (A constant array is copied before it is read: who reads many takes it once.)
+pub fn differences(all: &[u16], s: usize) -> &[u16]
+    requires { ⌜ now all ≡ joined differenceLists ⌝ }
+    ensures { λ r. ⌜ now r ≡ differences s ⌝ }
+{
+    let at = column(DIFFERENCES_AT, s);
+    &all[at..at + column(DIFFERENCE_COUNTS, s)]
 }
 
 // The difference at place k, from 0.
@@ -143,21 +154,20 @@ pub fn difference(s: usize, k: usize) -> usize
     requires { ⌜ k < length (differences s) ⌝ }
     ensures { λ r. ⌜ r ≡ getD (differences s) k 0 ⌝ }
 {
-    let t = DIFFERENCES;
-    entry(&t, column(DIFFERENCES_AT, s) + k)
+    let all = DIFFERENCES;
+    read(differences(&all, s), k)
 }
 
-// How many differences are at most x: they rise, so it is found by halving.
-pub fn rank(s: usize, x: usize) -> usize
-    ensures { λ r. ⌜ r ≡ many (λ e. leb e x) (differences s) ⌝ }
+// How many numbers of a rising list are at most x, found by halving.
+pub fn rank(d: &[u16], x: usize) -> usize
+    requires { ⌜ above 0 (now d) ≡ true ⌝ }
+    ensures { λ r. ⌜ r ≡ many (λ e. leb e x) (now (d .entry)) ⌝ }
 {
-    let t = DIFFERENCES;
-    let at = column(DIFFERENCES_AT, s);
     let mut low = 0;
-    let mut high = column(DIFFERENCE_COUNTS, s);
+    let mut high = d.len();
     while low < high {
         let k = (low + high) / 2;
-        if entry(&t, at + k) <= x {
+        if read(d, k) <= x {
             low = k + 1;
         } else {
             high = k;

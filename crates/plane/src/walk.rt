@@ -1,14 +1,19 @@
 // The rows of an item and the items of a row, in rising order. Row i holds item j when (j − i) modulo m is a difference, so both lists
-// follow the difference list from the place where it turns; no pair of row and item is tested. No call has a premise. A number out of
-// range gets 0; `row_by` and `item_by` give it where the count handed to them is the right one, and for another count nothing is said of
-// what they give.
+// follow the difference list from the place where it turns; no pair of row and item is tested. No public function has a premise; a number
+// out of range has no rows, no items and no tag, and is made of none.
 use crate::table;
 ghost use mathlib.Core.Path.{_≡_};
+ghost use mathlib.Core.List.{_++_};
 ghost use Prim.Native.Nat.{_-_, _≤_, _<_};
-ghost use lib.ListN.{length, getD};
-ghost use Rattle.incidence.specs.Count.{countUpTo, inside};
+ghost use lib.ListN.{length, getD, drop};
+ghost use Rattle.incidence.specs.Count.{inside};
 ghost use Rattle.incidence.specs.Family.{rowsOf, itemsOf};
+ghost use Rattle.plane.specs.Table.{planeItems};
 ghost use Rattle.plane.specs.Plane.{plane};
+ghost use Rattle.plane.specs.Walk.{Walk, along};
+
+// The most rows that hold an item, and the most items that a row holds: d + 1 where d is 16.
+pub const MOST: usize = 17;
 
 // Whether i is one of the numbers 1 to n.
 fn inside(n: usize, i: usize) -> bool
@@ -17,91 +22,84 @@ fn inside(n: usize, i: usize) -> bool
     1 <= i && i <= n
 }
 
-// How many rows hold item j.
-pub fn row_count(s: usize, j: usize) -> usize
-    ensures { λ r. ⌜ r ≡ length (rowsOf (plane s) j) ⌝ }
+// The item at place k, from 0, of those that row i holds. The differences from place `turn` on go round to the first items, then the
+// others follow.
+fn item_at(d: &[u16], s: usize, i: usize, turn: usize, k: usize) -> usize
+    requires { ⌜ Walk s i (now d) turn ⌝ }
+    requires { ⌜ k < length (now d) ⌝ }
+    ensures { λ r. ⌜ r ≡ getD (itemsOf (plane s) i) k 0 ⌝ }
 {
-    if inside(table::items(s), j) {
-        table::difference_count(s)
-    } else {
-        0
+    let place = turn + k;
+    if place < d.len() {
+        return i + table::read(d, place) - table::items(s);
     }
+    i + table::read(d, place - d.len())
 }
 
-// How many of the rows that hold item j are numbered below it: as many as there are differences below j.
-pub fn rows_below(s: usize, j: usize) -> usize
-    ensures { λ r. ⌜ r ≡ countUpTo (λ i. plane s .on i j) (j - 1) ⌝ }
+// The number at place k of the walk. Counted from the other end, the rows of an item are the items of a row.
+fn number_at(d: &[u16], s: usize, i: usize, turn: usize, back: bool, k: usize) -> usize
+    requires { ⌜ Walk s i (now d) turn ⌝ }
+    requires { ⌜ k < length (now d) ⌝ }
+    ensures { λ r. ⌜ r ≡ getD (along s i back) k 0 ⌝ }
 {
-    if inside(table::items(s), j) {
-        table::rank(s, j - 1)
-    } else {
-        0
+    if back {
+        return table::items(s) + 1 - item_at(d, s, i, turn, d.len() - 1 - k);
     }
+    item_at(d, s, i, turn, k)
 }
 
-// Counting from 1 to m and on again from 1: where x leads, which is at most 2 m.
-fn around(m: usize, x: usize) -> usize
-    ensures past { λ r. ⌜ (m < x → r ≡ x - m) ⌝ }
-    ensures within { λ r. ⌜ (x ≤ m → r ≡ x) ⌝ }
+// Writes the numbers of the walk to the front of out.
+fn write(d: &[u16], s: usize, i: usize, turn: usize, back: bool, out: &mut [usize]) -> usize
+    requires { ⌜ Walk s i (now d) turn ⌝ }
+    requires { ⌜ 17 ≤ length (now out) ⌝ }
+    ensures written { λ _. ⌜ now (out .exit) ≡ along s i back ++ drop (length (along s i back)) (now (out .entry)) ⌝ }
+    ensures count { λ r. ⌜ r ≡ length (along s i back) ⌝ }
 {
-    if m < x { x - m } else { x }
+    let n = d.len();
+    let mut k = 0;
+    while k < n {
+        out[k] = number_at(d, s, i, turn, back, k);
+        k += 1;
+    }
+    n
 }
 
-// The row at place k, from 0, among those that hold item j, by how many of them are below j, which a walk over all of them finds once.
-// The differences below j lead to the rows below j, the others to those behind.
-pub fn row_by(s: usize, j: usize, below: usize, k: usize) -> usize
-    ensures { λ r. ⌜ (below ≡ countUpTo (λ i. plane s .on i j) (j - 1) → r ≡ getD (rowsOf (plane s) j) k 0) ⌝ }
+// Walks along the items of row i or, from the other end, the rows of item m + 1 - i.
+fn walk(s: usize, i: usize, back: bool, out: &mut [usize]) -> usize
+    requires { ⌜ (1 ≤ i) × (i ≤ planeItems s) ⌝ }
+    requires { ⌜ 17 ≤ length (now out) ⌝ }
+    ensures written { λ _. ⌜ now (out .exit) ≡ along s i back ++ drop (length (along s i back)) (now (out .entry)) ⌝ }
+    ensures count { λ r. ⌜ r ≡ length (along s i back) ⌝ }
 {
-    let n = row_count(s, j);
-    if n <= k {
-        return 0;
-    }
-    if n < below {
-        return 0;
-    }
+    let all = table::DIFFERENCES;
+    let d = table::differences(&all, s);
+    let turn = table::rank(d, table::items(s) - i);
+    write(d, s, i, turn, back, out)
+}
+
+// Writes the rows that hold item j, rising, to the front of out, and gives how many; what is behind them stays.
+pub fn rows_of(s: usize, j: usize, out: &mut [usize; MOST]) -> usize
+    ensures written { λ _. ⌜ now (out .exit) ≡ rowsOf (plane s) j ++ drop (length (rowsOf (plane s) j)) (now (out .entry)) ⌝ }
+    ensures count { λ r. ⌜ r ≡ length (rowsOf (plane s) j) ⌝ }
+{
     let m = table::items(s);
-    let a = around(n, below + n - k);
-    around(m, j + m - table::difference(s, a - 1))
+    if inside(m, j) {
+        walk(s, m + 1 - j, true, out)
+    } else {
+        0
+    }
 }
 
-// How many items row i holds.
-pub fn item_count(s: usize, i: usize) -> usize
-    ensures { λ r. ⌜ r ≡ length (itemsOf (plane s) i) ⌝ }
+// Writes the items that row i holds, rising, to the front of out, and gives how many; what is behind them stays.
+pub fn items_of(s: usize, i: usize, out: &mut [usize; MOST]) -> usize
+    ensures written { λ _. ⌜ now (out .exit) ≡ itemsOf (plane s) i ++ drop (length (itemsOf (plane s) i)) (now (out .entry)) ⌝ }
+    ensures count { λ r. ⌜ r ≡ length (itemsOf (plane s) i) ⌝ }
 {
     if inside(table::items(s), i) {
-        table::difference_count(s)
+        walk(s, i, false, out)
     } else {
         0
     }
-}
-
-// How many of the items that row i holds are numbered up to i: as many as there are differences above m − i.
-pub fn items_upto(s: usize, i: usize) -> usize
-    ensures { λ r. ⌜ r ≡ countUpTo (plane s .on i) i ⌝ }
-{
-    let m = table::items(s);
-    if inside(m, i) {
-        table::difference_count(s) - table::rank(s, m - i)
-    } else {
-        0
-    }
-}
-
-// The item at place k, from 0, among those that row i holds, by how many of them are up to i, which a walk over all of them finds
-// once. The differences above m − i go round to the first items.
-pub fn item_by(s: usize, i: usize, upto: usize, k: usize) -> usize
-    ensures { λ r. ⌜ (upto ≡ countUpTo (plane s .on i) i → r ≡ getD (itemsOf (plane s) i) k 0) ⌝ }
-{
-    let n = item_count(s, i);
-    if n <= k {
-        return 0;
-    }
-    if n < upto {
-        return 0;
-    }
-    let m = table::items(s);
-    let a = around(n, n - upto + k + 1);
-    around(m, i + table::difference(s, a - 1))
 }
 
 // The tag of row i, 0 where it has none.

@@ -1,18 +1,21 @@
 -- What a crate above may use of the size codes: every known code's family is lawful, the numbers are small, and a code that is none has
 -- nothing. It needs nothing of planes.
-use mathlib.Core.Path.{_≡_, refl}
+use mathlib.Core.Path.{_≡_, refl, ap, _∙_}
 use mathlib.Core.Bool.{Bool, true, false}
+use mathlib.Core.List.{List, _++_}
 use Prim.Native.Nat.{ℕ, zero, suc, _≤_, _<_}
 use native.Mathlib.Omega.{arith}
 use lib.Dec.{leb}
+use lib.ListN.{length, getD, drop, List·getD-append}
 use borrow.Author.Tests.{leb-true, leb-false}
 use Rattle.incidence.specs.Count.{inside}
-use Rattle.incidence.specs.Family.{Family, Lawful}
+use Rattle.incidence.specs.Family.{Family, Lawful, rowsOf, itemsOf}
 use Rattle.incidence.proofs.Booleans.{not-both}
 use Rattle.incidence.proofs.Counting.{inside-low, inside-high, inside-yes}
 use Rattle.plane.specs.Table.{itemCounts, planeItems, tagCounts, planeTags, limits, planeLimit}
 use Rattle.plane.specs.Plane.{plane}
 use Rattle.plane.proofs.Planes as planes
+use Rattle.plane.proofs.Walks as walks
 use Rattle.plane.proofs.Lookup.{items-most, tags-most, limit-most, no-items, no-tags, no-limit}
 use Rattle.sizes.specs.Sizes.{known, familyOf}
 
@@ -69,3 +72,15 @@ unknown (suc c) h =
         go : (b : Bool) → leb (suc c) 4 ≡ b → 5 ≤ suc c
         go true e = absurd (not-both (inside 4 (suc c)) (inside-yes 4 (suc c) (omega arith) (leb-true (suc c) 4 e)) h)
         go false e = leb-false (suc c) 4 e
+
+-- what `rows_of` and `items_of` write fits into their buffer, and stands there
+pub row-list-few : (c j : ℕ) → length (rowsOf (familyOf c) j) ≤ 17
+unfolding familyOf
+row-list-few = walks.row-list-few
+
+pub item-list-few : (c i : ℕ) → length (itemsOf (familyOf c) i) ≤ 17
+unfolding familyOf
+item-list-few = walks.item-list-few
+
+pub written-at : (l was : List ℕ) {now : List ℕ} {n : ℕ} → (now ≡ l ++ drop (length l) was) × (n ≡ length l) → (k : ℕ) → k < n → getD now k 0 ≡ getD l k 0
+written-at l was w k h = ap (λ (x : List ℕ). getD x k 0) (w .0) ∙ List·getD-append l (drop (length l) was) 0 k (omega (arith, w .1))

@@ -1,12 +1,14 @@
-// The size codes: the one place that names them. What a code's family has, as numbers and walks; the crates above call nothing else of
-// it. No call has a premise. For a code that is none, or a number out of range, `known` answers false and the others 0; `row_by` and `item_by`
-// where the count handed to them is what `rows_below` and `items_upto` give. For another count nothing is said of what they answer.
+// The size codes: the one place that names them. What a code's family has, as numbers and lists; the crates above call nothing else of
+// it. No call has a premise, and each contract is stated outright for every code and number. For a code that is none, or a number out of
+// range, `known` answers false and the others 0, and no rows and no items are written.
 ghost use mathlib.Core.Path.{_≡_};
-ghost use Prim.Native.Nat.{_-_};
-ghost use lib.ListN.{length, getD};
-ghost use Rattle.incidence.specs.Count.{countUpTo};
+ghost use mathlib.Core.List.{_++_};
+ghost use lib.ListN.{length, getD, drop};
 ghost use Rattle.incidence.specs.Family.{rowsOf, itemsOf};
 ghost use Rattle.sizes.specs.Sizes.{known, familyOf};
+
+// How long a buffer for the rows of an item or the items of a row is: for every code, no list is longer.
+pub const MOST: usize = plane::walk::MOST;
 
 // Whether a number is a size code.
 pub fn known(code: u64) -> bool
@@ -43,47 +45,20 @@ pub fn limit(code: u64) -> usize
     plane::table::limit(code as usize)
 }
 
-// How many rows hold an item.
-pub fn row_count(code: u64, item: usize) -> usize
-    ensures { λ r. ⌜ r ≡ length (rowsOf (familyOf code) item) ⌝ }
+// Writes the rows that hold an item, rising, to the front of out, and gives how many; what is behind them stays.
+pub fn rows_of(code: u64, item: usize, out: &mut [usize; MOST]) -> usize
+    ensures written { λ _. ⌜ now (out .exit) ≡ rowsOf (familyOf code) item ++ drop (length (rowsOf (familyOf code) item)) (now (out .entry)) ⌝ }
+    ensures count { λ r. ⌜ r ≡ length (rowsOf (familyOf code) item) ⌝ }
 {
-    plane::walk::row_count(code as usize, item)
+    plane::walk::rows_of(code as usize, item, out)
 }
 
-// How many of the rows that hold an item are numbered below it.
-pub fn rows_below(code: u64, item: usize) -> usize
-    ensures { λ r. ⌜ r ≡ countUpTo (λ i. familyOf code .on i item) (item - 1) ⌝ }
+// Writes the items that a row holds, rising, to the front of out, and gives how many; what is behind them stays.
+pub fn items_of(code: u64, row: usize, out: &mut [usize; MOST]) -> usize
+    ensures written { λ _. ⌜ now (out .exit) ≡ itemsOf (familyOf code) row ++ drop (length (itemsOf (familyOf code) row)) (now (out .entry)) ⌝ }
+    ensures count { λ r. ⌜ r ≡ length (itemsOf (familyOf code) row) ⌝ }
 {
-    plane::walk::rows_below(code as usize, item)
-}
-
-// The row at place k, from 0, of those that hold an item, by how many of them are below it, which a walk over all asks once.
-pub fn row_by(code: u64, item: usize, below: usize, k: usize) -> usize
-    ensures { λ r. ⌜ (below ≡ countUpTo (λ i. familyOf code .on i item) (item - 1) → r ≡ getD (rowsOf (familyOf code) item) k 0) ⌝ }
-{
-    plane::walk::row_by(code as usize, item, below, k)
-}
-
-// How many items a row holds.
-pub fn item_count(code: u64, row: usize) -> usize
-    ensures { λ r. ⌜ r ≡ length (itemsOf (familyOf code) row) ⌝ }
-{
-    plane::walk::item_count(code as usize, row)
-}
-
-// How many of the items that a row holds are numbered up to the row's number.
-pub fn items_upto(code: u64, row: usize) -> usize
-    ensures { λ r. ⌜ r ≡ countUpTo (familyOf code .on row) row ⌝ }
-{
-    plane::walk::items_upto(code as usize, row)
-}
-
-// The item at place k, from 0, of those that a row holds, by how many of them are up to its number, which a walk over all
-// asks once.
-pub fn item_by(code: u64, row: usize, upto: usize, k: usize) -> usize
-    ensures { λ r. ⌜ (upto ≡ countUpTo (familyOf code .on row) row → r ≡ getD (itemsOf (familyOf code) row) k 0) ⌝ }
-{
-    plane::walk::item_by(code as usize, row, upto, k)
+    plane::walk::items_of(code as usize, row, out)
 }
 
 // The tag of a row, 0 where it has none.

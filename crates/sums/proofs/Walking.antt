@@ -14,9 +14,10 @@ use Rattle.cipher.proofs.Slots.{written, written-length, slot-here, slot-before
 use Rattle.incidence.specs.Count.{countUpTo, listed}
 use Rattle.incidence.specs.Sum.{sumOf, expanded}
 use Rattle.incidence.specs.Family.{Family, Lawful, rowsOf}
-use Rattle.incidence.proofs.Listing.{Member, listed-rank, listed-length}
+use Rattle.incidence.proofs.Listing.{Member, rowsOf-at, listed-rank, listed-length}
 use Rattle.incidence.proofs.Counting.{count-before}
 use Rattle.incidence.proofs.Sums.{sumOf-ext, expanded-all}
+use Rattle.sizes.proofs.Laws.{written-at}
 use Rattle.sums.specs.Adding.{sumIn, Holds, Added, addedAt, rowFrom}
 
 -- picked among the first k that pass
@@ -83,11 +84,6 @@ as-before p k j ne = go (p j) refl
     go : (b : Bool) → p j ≡ b → (b && ltb (countUpTo p (j - 1)) (k + 1)) ≡ (b && ltb (countUpTo p (j - 1)) k)
     go true e = tests (countUpTo p (j - 1)) (ne e)
     go false e = refl
-
--- as many rows are listed as pass
-pub rows-counted : (F : Family) (j : ℕ) → length (rowsOf F j) ≡ countUpTo (λ i. F .on i j) (F .rows)
-unfolding rowsOf
-rows-counted F j = listed-length (λ i. F .on i j) (F .rows)
 
 -- ---- the walk
 
@@ -191,14 +187,14 @@ module _ (p : ℕ → Bool) (rows n : ℕ) (rowOf sumOfRow : ℕ → ℕ) (P : P
             ∙ W .sums t l u
             ∙ elsewhere t l u (λ (e : rowOf t ≡ i). eqb-false t m q (sym (P .back t l u) ∙ ap sumOfRow e ∙ em))
 
-  pub walked-next : (s′ : List ℕ) (m : ℕ) → m ≡ sumOfRow i → s′ ≡ addedAt s m value → Walked p rowOf n value before s′ (k + 1)
+  walked-next : (s′ : List ℕ) (m : ℕ) → m ≡ sumOfRow i → s′ ≡ addedAt s m value → Walked p rowOf n value before s′ (k + 1)
   walked-next s′ m em e = go m em e
     where
       go : (m : ℕ) → m ≡ sumOfRow i → s′ ≡ addedAt s m value → Walked p rowOf n value before s′ (k + 1)
       go zero z q = subst (λ (x : List ℕ). Walked p rowOf n value before x (k + 1)) (added-none s value 0 refl ∙ sym q) (without (sym z))
       go (suc m) z q = with-sum (suc m) (sym z) (omega arith) s′ (q ∙ sym (added-some s value (suc m) (omega arith)))
 
-pub walked-done : (p : ℕ → Bool) (rows n : ℕ) (rowOf sumOfRow : ℕ → ℕ) → Placed rows n rowOf sumOfRow → (value before s : List ℕ) (k : ℕ)
+walked-done : (p : ℕ → Bool) (rows n : ℕ) (rowOf sumOfRow : ℕ → ℕ) → Placed rows n rowOf sumOfRow → (value before s : List ℕ) (k : ℕ)
     → Walked p rowOf n value before s k → countUpTo p rows ≤ k → Added (λ t. p (rowOf t)) n value before s
 walked-done p rows n rowOf sumOfRow P value before s k W h = record {
   size = W .size;
@@ -209,6 +205,27 @@ walked-done p rows n rowOf sumOfRow P value before s k W h = record {
     all : (i : ℕ) → 1 ≤ i → i ≤ rows → (b : Bool) → p i ≡ b → passed p k i ≡ p i
     all i l u true e = is-passed p k i e (omega (arith, count-before p rows i l u e)) ∙ sym e
     all i l u false e = ap (λ (b : Bool). b && ltb (countUpTo p (i - 1)) k) e ∙ sym e
+
+-- one turn of the walk over the rows of item j, which were written to a buffer, where the sums are those of places
+module _ (F : Family) (j : ℕ) {places : ℕ} {rowOf sumOfRow : ℕ → ℕ} (P : Placed (F .rows) places rowOf sumOfRow) (value was : List ℕ)
+    {before s rows : List ℕ} {n k : ℕ} (W : Walked (λ i. F .on i j) rowOf places value before s k)
+    (w : (rows ≡ rowsOf F j ++ drop (length (rowsOf F j)) was) × (n ≡ length (rowsOf F j))) where
+  pub turn-done : n ≤ k → Added (λ t. F .on (rowOf t) j) places value before s
+  unfolding rowsOf
+  turn-done h =
+      walked-done (λ i. F .on i j) (F .rows) places rowOf sumOfRow P value before s k W (omega (arith, w .1, listed-length (λ i. F .on i j) (F .rows)))
+
+  module _ (h : k < n) (fits : 16 * places ≤ length before) {t : ℕ} (e : t ≡ sumOfRow (getD rows k 0)) where
+    row-here : Member (λ i. F .on i j) (F .rows) k (getD rows k 0)
+    row-here =
+        subst (Member (λ i. F .on i j) (F .rows) k) (sym (written-at (rowsOf F j) was w k h)) (rowsOf-at F j k (omega (arith, w .1)))
+
+    pub turn-fits : 16 * t ≤ length s
+    turn-fits = omega (arith, P .within (getD rows k 0) (row-here .low) (row-here .high), W .size)
+
+    pub turn-next : {s′ : List ℕ} → length value ≡ 16 → s′ ≡ addedAt s t value → Walked (λ i. F .on i j) rowOf places value before s′ (k + 1)
+    turn-next {s′} long q =
+        walked-next (λ i. F .on i j) (F .rows) places rowOf sumOfRow P value before s k (getD rows k 0) W row-here fits long s′ t e q
 
 -- ---- the rows that a row is made of, from the last
 

@@ -28,11 +28,11 @@ pub fn add_to_rows(code: u64, sums: &mut [u8], j: usize, value: [u8; 16])
     requires { ⌜ 16 * familyOf code .rows ≤ length (now sums) ⌝ }
     ensures { λ _. ⌜ Added (λ i. familyOf code .on i j) (familyOf code .rows) value (now (sums .entry)) (now (sums .exit)) ⌝ }
 {
-    let n = sizes::row_count(code, j);
-    let below = sizes::rows_below(code, j);
+    let mut rows = [0usize; sizes::MOST];
+    let n = sizes::rows_of(code, j, &mut rows);
     let mut k = 0;
     while k < n {
-        let i = sizes::row_by(code, j, below, k);
+        let i = rows[k];
         add_to_sum(sums, i, value);
         k += 1;
     }
@@ -44,11 +44,11 @@ pub fn add_to_tags(code: u64, sums: &mut [u8], j: usize, value: [u8; 16])
     requires { ⌜ 16 * familyOf code .tags ≤ length (now sums) ⌝ }
     ensures { λ _. ⌜ Added (λ t. familyOf code .on (familyOf code .rowOfTag t) j) (familyOf code .tags) value (now (sums .entry)) (now (sums .exit)) ⌝ }
 {
-    let n = sizes::row_count(code, j);
-    let below = sizes::rows_below(code, j);
+    let mut rows = [0usize; sizes::MOST];
+    let n = sizes::rows_of(code, j, &mut rows);
     let mut k = 0;
     while k < n {
-        let i = sizes::row_by(code, j, below, k);
+        let i = rows[k];
         add_to_sum(sums, sizes::tag_of_row(code, i), value);
         k += 1;
     }

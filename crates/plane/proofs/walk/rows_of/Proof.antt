@@ -1,0 +1,53 @@
+-- The walk back along the row that stands as far from the end, or nothing where there is no such item (Walks).
+use mathlib.Core.Path.{_≡_, sym, ap, _∙_}
+use Prim.Native.Nat.{_+_, _-_}
+use native.Mathlib.Omega.{arith}
+use Rattle.incidence.specs.Family.{rowsOf}
+use Rattle.incidence.proofs.Counting.{inside-low, inside-high}
+use Rattle.plane.specs.Table.{planeItems}
+use Rattle.plane.specs.Plane.{plane}
+use Rattle.plane.specs.Walk.{along}
+use Rattle.plane.proofs.Lookup.{items-most}
+use Rattle.plane.proofs.Walks.{inside-of, rows-out, written-as, written-none}
+use borrow.Author.Needs.{needs}
+use Rattle.plane.proofs.walk.rows_of.Statement.{statement}
+use Rattle.plane.proofs.walk.rows_of.Tie as tie
+
+items-requires : tie.Need-items-requires
+items-requires c κs = search needs
+
+inside-requires : tie.Need-inside-requires
+inside-requires c κs = search needs
+
+add-walk : tie.Need-add-walk
+add-walk c = omega (arith, c .before .before .items .ensures, items-most (c .before .before .before .args .s))
+
+sub-walk : tie.Need-sub-walk
+sub-walk c =
+    let j = c .before .before .before .args .j in
+    omega (arith, c .before .before .items .ensures, inside-high _ j (sym (c .before .inside .ensures) ∙ c .if1 .taken))
+
+walk-requires : tie.Need-walk-requires
+walk-requires c κs =
+    let t = c .before in
+    let m = t .before .before .items .ensures in
+    let j = t .before .before .before .args .j in
+    let w = sym (t .before .inside .ensures) ∙ t .if1 .taken in
+    ((omega (arith, m, inside-high _ j w), omega (arith, m, inside-low _ j w)), search needs)
+
+returns : tie.Need-returns
+unfolding along
+returns c =
+    let b = c .before .before in
+    let m = b .before .before .items .ensures in
+    let a = b .before .before .before .args in
+    let e : planeItems (a .s) + 1 - (b .before .before .items .result + 1 - a .j) ≡ a .j = omega (arith, m, inside-high _ (a .j) (sym (b .before .inside .ensures) ∙ b .if1 .taken)) in
+    written-as (a .out .now) (ap (rowsOf (plane (a .s))) e) (c .walk .ensures)
+
+returns-2 : tie.Need-returns-2
+returns-2 c =
+    let b = c .before .before in
+    written-none (b .before .args .out .now) (rows-out _ _ (inside-of _ _ (b .before .args .j) _ _ (b .items .ensures) (c .before .inside .ensures) (c .if1 .left)))
+
+pub rows-of-spec : {M : Type 1} → statement M
+rows-of-spec = tie.close (tie.spec items-requires inside-requires add-walk sub-walk walk-requires returns returns-2)
