@@ -1,9 +1,60 @@
-// Whole shelves of every size, a line a case: two ways to one sheet, and reports with 0, 1, d and d+1 altered cards. What is right is worked
-// out beside the case, or is what the other way gives.
-mod agreement;
-mod altered;
+// Whole shelves of every size, a line of `stdin` a case in the words of trial's `line`: sessions and Replace against Tag, and reports with 0, 1, d and
+// d + 1 altered cards. `stdout` has what is right, counted from document 01's difference lists. Last, the session whose cards are too long
+// for one shelf.
+use trial::inputs;
+use trial::inputs::KEYS;
+use trial::say;
+ghost use Prim.Native.Nat.{_≤_};
+ghost use lib.ListN.{length};
+
+// Makes zeros a shelf of 63 cards of 1,024 zeros and an empty card: 64,647 bytes.
+fn put_long_cards(shelf: &mut [u8])
+    requires { ⌜ 64647 ≤ length (now shelf) ⌝ }
+{
+    inputs::put_header(shelf, 64);
+    let mut i = 0;
+    while i < 63 {
+        inputs::put_number(shelf, 7 + 1026 * i, 1024);
+        i += 1;
+    }
+}
+
+// Tag's sheet of those cards.
+fn tagged() -> [u8; 472] {
+    let mut shelf = [0u8; 64647];
+    put_long_cards(&mut shelf);
+    let mut out = [0u8; 472];
+    scheme::tag(&KEYS, 3, &shelf, &mut out);
+    out
+}
+
+// A session's sheet of 64 cards of 1,024 zeros.
+fn by_session() -> [u8; 472] {
+    let step = session::begin(&KEYS, 3, 64);
+    let mut s = step.session;
+    let mut j: u64 = 0;
+    while j < 64 {
+        let next = s.put(&[0u8; 1024]);
+        s = next.session;
+        j += 1;
+    }
+    let mut out = [0u8; 472];
+    s.close(&mut out);
+    out
+}
+
+// The 64 cards are too long for one shelf, until the last is replaced by the empty card.
+fn long_session() {
+    let mut out = [0u8; 472];
+    scheme::replace(&KEYS, &by_session(), 64, &[0u8; 1024], b"", &mut out);
+    say::text(b"session of 64 cards of 1,024 bytes, size 3, then card 64 emptied");
+    let same = check::same(&out, &tagged());
+    say::either(same, b": equals Tag's\n", b": differs from Tag's\n");
+}
 
 fn main() {
-    agreement::all();
-    altered::all();
+    let mut text = [0u8; 32768];
+    let n = io::read_full(0, &mut text);
+    trial::line::run_all(&text[..n]);
+    long_session();
 }

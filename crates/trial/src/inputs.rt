@@ -1,14 +1,10 @@
-// Keys, shelves, sheets and sessions that the cases start from.
+// The keys and shelves that the cases start from.
 use cipher::block;
-use session::Session;
-ghost use Prim.Native.Nat.{_+_, _*_, _≤_, _<_};
+ghost use Prim.Native.Nat.{_+_, _*_, _≤_};
 ghost use lib.ListN.{length};
 
 // Three different keys of 16 bytes.
 pub const KEYS: [u8; 48] = *b"key of the cardskey of the tags.key of the seal.";
-
-// The shelf of one empty card, and one byte more.
-pub const ONE_EMPTY: [u8; 10] = *b"TBS\x00\x01\x00\x01\x00\x00\x00";
 
 // A shelf of two cards: the letter a, and the empty card.
 pub const SHELF: [u8; 12] = *b"TBS\x00\x01\x00\x02\x00\x01a\x00\x00";
@@ -59,18 +55,6 @@ pub fn alter(shelf: &mut [u8], a: usize, e: usize)
     }
 }
 
-// Makes zeros a shelf of 63 cards of 1,024 zeros and an empty card: 64,647 bytes.
-pub fn put_long_cards(shelf: &mut [u8])
-    requires { ⌜ 64647 ≤ length (now shelf) ⌝ }
-{
-    put_header(shelf, 64);
-    let mut i = 0;
-    while i < 63 {
-        put_number(shelf, 7 + 1026 * i, 1024);
-        i += 1;
-    }
-}
-
 // Document 01, planes: how many cards a size has at most.
 pub fn most_cards(code: u64) -> usize
     ensures { λ r. ⌜ r ≤ 273 ⌝ }
@@ -85,7 +69,7 @@ pub fn most_cards(code: u64) -> usize
 
 // Document 01, the two files: how long a size's sheet is.
 pub fn sheet_length(code: u64) -> usize
-    ensures { λ r. ⌜ r ≤ 1336 ⌝ }
+    ensures { λ r. ⌜ (24 ≤ r) × (r ≤ 1336) ⌝ }
 {
     match code {
         1 => 88,
@@ -93,72 +77,4 @@ pub fn sheet_length(code: u64) -> usize
         3 => 472,
         _ => 1336,
     }
-}
-
-// A sheet of size 1.
-pub fn sheet_of(shelf: &[u8]) -> [u8; 88] {
-    let mut out = [0u8; 88];
-    scheme::tag(&KEYS, 1, shelf, &mut out);
-    out
-}
-
-// The sheet of the shelf of two cards.
-pub fn sheet() -> [u8; 88] {
-    sheet_of(&SHELF)
-}
-
-// That sheet with another byte at a place.
-pub fn sheet_with(at: usize, x: u8) -> [u8; 88]
-    requires { ⌜ at < 88 ⌝ }
-{
-    let mut out = sheet();
-    out[at] = x;
-    out
-}
-
-// That sheet with a bit flipped at a place.
-pub fn sheet_flipped(at: usize) -> [u8; 88]
-    requires { ⌜ at < 88 ⌝ }
-{
-    let out = sheet();
-    sheet_with(at, out[at] ^ 1)
-}
-
-// Sessions of size 1 for the two cards of that shelf, with so many put.
-pub fn none_of_two() -> Session {
-    let step = session::begin(&KEYS, 1, 2);
-    step.session
-}
-
-pub fn one_of_two() -> Session {
-    let s = none_of_two();
-    let step = s.put(b"a");
-    step.session
-}
-
-pub fn two_of_two() -> Session {
-    let s = one_of_two();
-    let step = s.put(b"");
-    step.session
-}
-
-// What no run of the calls gives.
-pub fn three_of_two() -> Session {
-    let mut s = two_of_two();
-    s.taken = 3;
-    s
-}
-
-// What a finished close gives.
-pub fn finished() -> Session {
-    let s = two_of_two();
-    let mut out = [0u8; 88];
-    let step = s.close(&mut out);
-    step.session
-}
-
-// What a refused begin gives.
-pub fn never_begun() -> Session {
-    let step = session::begin(b"", 1, 2);
-    step.session
 }

@@ -1,4 +1,8 @@
-// What the programs of worked cases share: inputs, what decides whether a line is right, and how it is said.
+// Trials of the calls: a line names a call and what it is given, and what comes out is said behind it.
+pub mod calls;
+pub mod given;
 pub mod inputs;
 pub mod judge;
+pub mod line;
 pub mod say;
+pub mod sessions;

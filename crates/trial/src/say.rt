@@ -2,6 +2,7 @@
 use files::Refusal;
 use incidence::Answer;
 use scheme::Reported;
+ghost use Prim.Native.Nat.{_≤_};
 
 pub fn text(bytes: &[u8]) {
     io::write_all(1, bytes);
@@ -20,10 +21,6 @@ pub fn either(holds: bool, first: &[u8], second: &[u8]) {
     }
 }
 
-pub fn verdict(right: bool) {
-    either(right, b", right\n", b", WRONG\n");
-}
-
 fn wide(x: u8) -> u64 {
     x as u64
 }
@@ -37,13 +34,6 @@ pub fn outcome(r: Refusal) {
     number(wide(r.number));
     text(b" place ");
     number(r.place as u64);
-}
-
-// The front of a line: the call, the case, and what came out.
-pub fn call(name: &[u8], case: &[u8], r: Refusal) {
-    text(name);
-    text(case);
-    outcome(r);
 }
 
 fn answer(a: Answer) {
@@ -62,14 +52,28 @@ pub fn found(f: Reported) {
     number(f.rows as u64);
 }
 
-// The numbers of the cards that are marked.
-pub fn marked(marks: &[u8]) {
+// Says the number of a card if it is named; gives 1 if it is cleared, and else 0.
+fn mark(j: usize, x: u8) -> u64
+    ensures { λ r. ⌜ r ≤ 1 ⌝ }
+{
+    if x == 1 {
+        text(b", card ");
+        number(j as u64);
+    }
+    if x == 0 {
+        return 1;
+    }
+    0
+}
+
+// The numbers of the cards that are named, and how many are cleared.
+pub fn marks(out: &[u8]) {
+    let mut cleared: u64 = 0;
     let mut i = 0;
-    while i < marks.len() {
-        if marks[i] == 1 {
-            text(b", card ");
-            number((i + 1) as u64);
-        }
+    while i < out.len() {
+        cleared += mark(i + 1, out[i]);
         i += 1;
     }
+    text(b", cleared ");
+    number(cleared);
 }

@@ -1,0 +1,161 @@
+// What a call is given: a number for each word of a line, and the bytes of its arguments.
+use crate::inputs;
+ghost use Prim.Native.Nat.{_≤_, _<_};
+ghost use lib.ListN.{length};
+
+// The words by their places among the numbers. The first five are arguments of bytes, and their numbers are lengths.
+pub const WORDS: [u8; 136] =
+    *b"shelf   keys    sheet   old     new     size    count   card    lent    \
+    puts    taken   closed  byte    is      flip    cards   altered ";
+
+pub const SHELF: usize = 0;
+
+pub const KEYS: usize = 1;
+
+pub const SHEET: usize = 2;
+
+pub const OLD: usize = 3;
+
+pub const NEW: usize = 4;
+
+pub const SIZE: usize = 5;
+
+pub const COUNT: usize = 6;
+
+pub const CARD: usize = 7;
+
+pub const LENT: usize = 8;
+
+pub const PUTS: usize = 9;
+
+pub const TAKEN: usize = 10;
+
+pub const CLOSED: usize = 11;
+
+const BYTE: usize = 12;
+
+const IS: usize = 13;
+
+const FLIP: usize = 14;
+
+const CARDS: usize = 15;
+
+const ALTERED: usize = 16;
+
+// Behind the words: a number that is not 0 where some word was none of them, and which argument of bytes was named last.
+pub const UNKNOWN: usize = 17;
+
+const LAST: usize = 18;
+
+// Where a line does not say otherwise: a shelf of two cards, the keys, the shelf's sheet of size 1, its card 1 by the letter b.
+pub const USUAL: [u64; 19] = [
+    12,
+    48,
+    88,
+    1,
+    1,
+    1,
+    2,
+    1,
+    1400,
+    0,
+    0,
+    0,
+    0,
+    0,
+    0,
+    0,
+    0,
+    0,
+    0,
+];
+
+// Where the bytes of an argument start.
+fn start(a: usize) -> usize
+    ensures { λ r. ⌜ r ≤ 70656 ⌝ }
+{
+    if a == SHELF {
+        return 0;
+    }
+    64512 + 1536 * (a % 5)
+}
+
+// The first n bytes of an argument.
+pub fn part(bytes: &[u8], a: usize, n: u64) -> &[u8] {
+    let from = start(a);
+    let to = from + (n % 65538) as usize;
+    if to <= bytes.len() {
+        return &bytes[from..to];
+    }
+    &bytes[0..0]
+}
+
+// Writes the sheet of the shelf as it is, of a size.
+fn put_sheet(bytes: &mut [u8], size: u64, n: u64)
+    requires { ⌜ 72192 ≤ length (now bytes) ⌝ }
+{
+    let mut sheet = [0u8; 1336];
+    scheme::tag(&inputs::KEYS, size, part(bytes, SHELF, n), &mut sheet);
+    inputs::put(bytes, 67584, &sheet);
+}
+
+// Writes the bytes of the usual arguments, each where it starts.
+pub fn put_usual(bytes: &mut [u8])
+    requires { ⌜ 72192 ≤ length (now bytes) ⌝ }
+{
+    inputs::put(bytes, 0, &inputs::SHELF);
+    inputs::put(bytes, 66048, &inputs::KEYS);
+    inputs::put(bytes, 69120, b"a");
+    inputs::put(bytes, 70656, b"b");
+    put_sheet(bytes, 1, 12);
+}
+
+// Sets the number of a word.
+pub fn set(n: &mut [u64; 19], w: usize, v: u64)
+    requires { ⌜ w < 18 ⌝ }
+{
+    n[w] = v;
+    if w < 5 {
+        n[LAST] = w as u64;
+    }
+    if w == UNKNOWN {
+        n[UNKNOWN] = 1;
+    }
+}
+
+// A byte as `is` or `flip` leaves it, and as any other word does.
+fn altered(old: u8, w: usize, x: u8) -> u8 {
+    match w {
+        IS => x,
+        FLIP => old ^ x,
+        _ => old,
+    }
+}
+
+// Alters a byte of the argument named last.
+fn alter(bytes: &mut [u8], last: u64, byte: u64, w: usize, v: u64) {
+    let at = start((last % 5) as usize) + (byte % 65538) as usize;
+    if at < bytes.len() {
+        bytes[at] = altered(bytes[at], w, (v % 256) as u8);
+    }
+}
+
+// Makes the bytes that a word with its number stands for.
+pub fn make(n: &mut [u64; 19], bytes: &mut [u8], w: usize, v: u64)
+    requires { ⌜ 72192 ≤ length (now bytes) ⌝ }
+{
+    if w == SHEET {
+        put_sheet(bytes, n[SIZE], n[SHELF]);
+        return;
+    }
+    if w == CARDS {
+        n[SHELF] = 7 + 4 * (v % 274);
+        inputs::put_short_cards(bytes, (v % 274) as usize);
+        return;
+    }
+    if w == ALTERED {
+        inputs::alter(bytes, 2, 2 + (v % 256) as usize);
+        return;
+    }
+    alter(bytes, n[LAST], n[BYTE], w, v);
+}
