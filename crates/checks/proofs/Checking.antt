@@ -1,25 +1,16 @@
 -- What passes all checks of a call is known.
-use mathlib.Core.Path.{_≡_, refl}
-use mathlib.Core.Bool.{Bool, true, _&&_}
-use mathlib.Core.List.{List}
-use Prim.Native.Nat.{ℕ, _≤_}
-use native.Mathlib.Omega.{arith}
-use lib.Dec.{eqb, leb}
-use lib.ListN.{length}
-use borrow.Author.Tests.{eqb-true, leb-true}
+use Rattle.fips197.proofs.Kit.{_≡_, refl, true, _&&_, List, ℕ, _≤_, arith, eqb, leb, length, eqb-true, leb-true}
 use Rattle.incidence.specs.Count.{inside}
 use Rattle.incidence.proofs.Counting.{inside-low, inside-high}
 use Rattle.sizes.specs.Sizes.{known, familyOf}
 use Rattle.files.specs.declared.Refusal.{Refusal}
-use Rattle.files.specs.Refusals.{first}
 use Rattle.files.specs.Message.{itemCount, refuse3, refuse5, refuse8, Sound}
-use Rattle.files.specs.TagFile.{fileSize, codeOf, countOf, countFits, refuse6, Formed}
+use Rattle.files.specs.TagFile.{fileSize, codeOf, countOf, countFits, Formed}
 use Rattle.files.specs.Arguments.{refuse1, refuse2, refuse4, refuse7}
 use Rattle.incidence.proofs.Booleans.{and-left, and-right}
 use Rattle.files.proofs.Passing.{rest-passes, unless-passes, number-of}
 use Rattle.files.proofs.Messages.{plain3, plain5, headed}
 use Rattle.files.proofs.Accepted.{formed}
-use Rattle.tagging.specs.Tagging.{keysIn}
 use Rattle.checks.specs.Refused.{refuse21, tagRefusal, verifyRefusal, reportRefusal, replaceRefusal}
 use Rattle.checks.specs.Passed.{Taggable, Comparable, Reportable, Replaceable}
 

@@ -1,6 +1,5 @@
 -- Document 01's starred bench cards about the cipher, computed from the definitions.
-use mathlib.Core.Path.{_≡_, refl}
-use mathlib.Core.List.{[], _∷_, _++_}
+use Rattle.fips197.proofs.Kit.{_≡_, refl, [], _∷_, _++_}
 use Rattle.cipher.specs.Block.{_⊕_, zeros}
 use Rattle.cipher.specs.Number.{numberOf, number, bigEndian}
 use Rattle.fips197.specs.Field.{xtimes, productBy, _•_, powerBy, power, inverse}

@@ -1,15 +1,5 @@
 -- CMAC: blocks read from two parts, padding, what the loop keeps of the chain, its two ends, and the sizes.
-use mathlib.Core.Path.{_≡_, refl, sym, ap, ap₂, _∙_}
-use mathlib.Core.Bool.{Bool, true, false}
-use mathlib.Core.List.{List, [], _∷_, _++_}
-use Prim.Native.Nat.{ℕ, zero, suc, _+_, _-_, _*_, _/_, _%_, _≤_, _<_}
-use native.Mathlib.Omega.{arith}
-use native.Mathlib.Numerals.{add-one}
-use lib.Dec.{eqb}
-use lib.ListN.{length, getD, take, drop, length-append, length-drop, length-take, length-replicate, getD-replicate, List·getD-append}
-use lib.Seq.{getD-append-seam, getD-append-add, append-snoc, take-at, take-all, ext-getD, getD-drop, drop-append-add, drop-append-le, take-append-le}
-use lib.Arith.{lt-of-le-ne}
-use borrow.Author.Tests.{eq-eqb, ne-eqb, eqb-true, eqb-false}
+use Rattle.fips197.proofs.Kit.{_≡_, refl, sym, ap, ap₂, _∙_, Bool, true, false, List, [], _∷_, _++_, ℕ, zero, suc, _+_, _-_, _*_, _/_, _%_, _≤_, _<_, arith, add-one, eqb, length, getD, take, drop, length-append, length-drop, length-take, length-replicate, getD-replicate, List·getD-append, getD-append-seam, getD-append-add, append-snoc, take-at, take-all, ext-getD, getD-drop, drop-append-add, drop-append-le, take-append-le, lt-of-le-ne, eq-eqb, ne-eqb, eqb-true, eqb-false}
 use Rattle.cipher.specs.Block.{if_then_else_, Bytes, Block, _⊕_, zeros}
 use Rattle.cipher.specs.Cmac.{subkey1, subkey2, blockCount, padded, lastBlock, chain, macBy}
 use Rattle.cipher.proofs.Xor.{⊕-block, zeros-block, zeros-bytes, take-bytes, drop-bytes, append-bytes}

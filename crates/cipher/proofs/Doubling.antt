@@ -1,15 +1,5 @@
 -- Doubling: what each byte is, as the code computes it; that it is multiplication by x; and that it keeps blocks.
-use mathlib.Core.Path.{_≡_, sym, ap, ap₂, _∙_, subst}
-use mathlib.Core.Logic.{⊎-elim}
-use mathlib.Core.List.{List, [], _∷_, _++_}
-use Prim.Native.Nat.{ℕ, zero, suc, _+_, _*_, _/_, _%_, _^_, _<_}
-use native.Mathlib.Nat.{not-suc-le-zero, le-of-suc-le-suc, eq-or-lt-of-le, div-div-eq-div-mul, pow-suc, add-mul, mul-assoc, mul-comm, mod-lt, div-add-mod', div-lt-iff-lt-mul, zero-add, add-zero}
-use lib.Dec.{lit<}
-use lib.Pow.{pow-pos}
-use native.Mathlib.Omega.{arith}
-use lib.ListN.{length, getD, getD-replicate, List·getD-append}
-use lib.Seq.{getD-at}
-use lib.Bits.{bitAnd, bitXor, bitOr, and-mask, or-shifted, xor-zero-r, xor-block, xor-lt, xor-self}
+use Rattle.fips197.proofs.Kit.{_≡_, sym, ap, ap₂, _∙_, subst, ⊎-elim, List, [], _∷_, _++_, ℕ, zero, suc, _+_, _*_, _/_, _%_, _^_, _<_, not-suc-le-zero, le-of-suc-le-suc, eq-or-lt-of-le, div-div-eq-div-mul, pow-suc, add-mul, mul-assoc, mul-comm, mod-lt, div-add-mod', div-lt-iff-lt-mul, zero-add, add-zero, lit<, pow-pos, arith, length, getD, getD-replicate, List·getD-append, getD-at, bitAnd, bitXor, bitOr, and-mask, or-shifted, xor-zero-r, xor-block, xor-lt, xor-self}
 use Rattle.cipher.specs.Block.{Bytes, Block, _⊕_, zeros}
 use Rattle.cipher.specs.Number.{numberOf, number, bigEndian}
 use Rattle.cipher.specs.Double.{double, timesX}

@@ -1,10 +1,6 @@
 -- What a crate above may use of the ciphers and of CMAC: sizes and byte ranges, and that deciphering undoes enciphering and the
 -- reverse. It needs nothing of what AES is. The laws of XOR and of numbers that it shares are in Xor, Numbers and Doubling.
-use mathlib.Core.Path.{_≡_, ap}
-use mathlib.Core.List.{List}
-use Prim.Native.Nat.{ℕ}
-use native.Mathlib.Omega.{arith}
-use lib.ListN.{length}
+use Rattle.fips197.proofs.Kit.{_≡_, ap, List, ℕ, arith, length}
 use Rattle.cipher.specs.Block.{Bytes, Block}
 use Rattle.cipher.specs.Aes.{encipher, cipher, invCipher}
 use Rattle.cipher.specs.Cmac.{subkey1, subkey2, macBy, cmac, ready, macWith}

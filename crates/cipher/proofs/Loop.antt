@@ -1,12 +1,5 @@
 -- The law of loops that write an array from the front (fips197's Loop), passed on; and what it gives for the front and for a part of a longer slice.
-use mathlib.Core.Path.{_≡_, refl, ap, _∙_}
-use mathlib.Core.List.{List, [], _∷_, _++_, map, append-nil}
-use Prim.Native.Nat.{ℕ, zero, suc, _+_, _-_, _≤_, _<_}
-use native.Mathlib.Nat.{not-suc-le-zero, le-of-suc-le-suc}
-use native.Mathlib.Omega.{arith}
-use lib.ListN.{length, getD, take, drop, length-drop}
-use lib.Seq.{take-length, take-all, drop-drop, drop-length}
-use borrow.Rule.Slice.PartMut.{putMid}
+use Rattle.fips197.proofs.Kit.{_≡_, refl, ap, _∙_, List, [], _∷_, _++_, map, append-nil, ℕ, zero, suc, _+_, _-_, _≤_, _<_, not-suc-le-zero, le-of-suc-le-suc, arith, length, getD, take, drop, length-drop, take-length, take-all, drop-drop, drop-length, putMid}
 pub use Rattle.fips197.proofs.Loop.{part, part-turn, part-read, part-done}
 
 pub map-at : (f : ℕ → ℕ) (l : List ℕ) (i : ℕ) → i < length l → getD (map f l) i 0 ≡ f (getD l i 0)

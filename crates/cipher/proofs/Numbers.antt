@@ -1,14 +1,5 @@
 -- Big-endian numbers and their bytes: each gives the other back; lengths and byte ranges; XOR byte by byte.
-use mathlib.Core.Path.{_≡_, refl, sym, ap, ap₂, _∙_, subst}
-use mathlib.Core.List.{List, [], _∷_, _++_}
-use Prim.Native.Nat.{ℕ, zero, suc, _+_, _*_, _/_, _%_, _^_, _≤_, _<_}
-use native.Mathlib.Nat.{mod-lt, zero-lt-suc, pow-suc, mul-assoc, mul-comm, div-lt-iff-lt-mul, div-div-eq-div-mul, mod-eq-of-lt}
-use lib.Pow.{pow-pos}
-use native.Mathlib.Numerals.{add-one}
-use native.Mathlib.Omega.{arith}
-use lib.ListN.{length, getD, take, length-append, List·getD-append}
-use lib.Seq.{getD-append-add, take-suc, take-all}
-use lib.Bits.{bitXor, xor-shr, xor-mod}
+use Rattle.fips197.proofs.Kit.{_≡_, refl, sym, ap, ap₂, _∙_, subst, List, [], _∷_, _++_, ℕ, zero, suc, _+_, _*_, _/_, _%_, _^_, _≤_, _<_, mod-lt, zero-lt-suc, pow-suc, mul-assoc, mul-comm, div-lt-iff-lt-mul, div-div-eq-div-mul, mod-eq-of-lt, pow-pos, add-one, arith, length, getD, take, length-append, List·getD-append, getD-append-add, take-suc, take-all, bitXor, xor-shr, xor-mod}
 use Rattle.cipher.specs.Block.{Bytes, _⊕_, zeros}
 use Rattle.cipher.specs.Number.{numberOf, number, bigEndian}
 use Rattle.cipher.proofs.Xor.{append-bytes, byte-at}

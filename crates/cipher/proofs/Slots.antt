@@ -1,13 +1,5 @@
 -- Blocks one after another in a list: writing one leaves the others, and a walk writes them all.
-use mathlib.Core.Path.{_≡_, refl, sym, ap, ap₂, _∙_}
-use mathlib.Core.List.{List, _++_, append-assoc}
-use mathlib.Core.Logic.{_⊎_, inl, inr}
-use Prim.Native.Nat.{ℕ, zero, suc, _+_, _-_, _*_, _≤_, _<_}
-use native.Mathlib.Nat.{le-of-suc-le-suc, eq-or-lt-of-le}
-use native.Mathlib.Omega.{arith}
-use native.Mathlib.Numerals.{add-one}
-use lib.ListN.{length, take, drop, length-append, length-take, length-drop, take-append-drop}
-use lib.Seq.{take-append-le, drop-append-le, drop-append-add, drop-at, take-at, drop-drop}
+use Rattle.fips197.proofs.Kit.{_≡_, refl, sym, ap, ap₂, _∙_, List, _++_, append-assoc, _⊎_, inl, inr, ℕ, zero, suc, _+_, _-_, _*_, _≤_, _<_, le-of-suc-le-suc, eq-or-lt-of-le, arith, add-one, length, take, drop, length-append, length-take, length-drop, take-append-drop, take-append-le, drop-append-le, drop-append-add, drop-at, take-at, drop-drop}
 use Rattle.cipher.specs.Block.{slot, listOf}
 
 pub slot-length : (s : List ℕ) (k : ℕ) → 16 * k + 16 ≤ length s → length (slot s k) ≡ 16

@@ -1,14 +1,5 @@
 -- The laws of XOR and of bytes (fips197's Xor), passed on for the crates above; and equality of lists, as `same` decides it.
-use mathlib.Core.Path.{_≡_, refl, sym, ap, ap₂, _∙_}
-use mathlib.Core.Bool.{Bool, true, false, _&&_}
-use mathlib.Core.List.{List, [], _∷_}
-use Prim.Native.Nat.{ℕ, _+_, _≤_, _<_}
-use native.Mathlib.Omega.{arith}
-use native.Mathlib.Numerals.{add-one}
-use lib.Dec.{eqb}
-use lib.ListN.{length, getD, drop, drop-of-length-le}
-use lib.Seq.{drop-cons}
-use borrow.Author.Tests.{eqb-true, eq-eqb, ne-eqb}
+use Rattle.fips197.proofs.Kit.{_≡_, refl, sym, ap, ap₂, _∙_, Bool, true, false, _&&_, List, [], _∷_, ℕ, _+_, _≤_, _<_, arith, add-one, eqb, length, getD, drop, drop-of-length-le, drop-cons, eqb-true, eq-eqb, ne-eqb}
 use Rattle.cipher.specs.Block.{same}
 pub use Rattle.fips197.proofs.Xor.{⊕-comm, ⊕-assoc, ⊕-length, ⊕-cancel, ⊕-self, ⊕-zeros, ⊕-at, ⊕-bytes, ⊕-block, block-cancel}
 pub use Rattle.fips197.proofs.Xor.{byte-at, bytes-from, append-bytes, take-bytes, drop-bytes, zeros-bytes, zeros-block}

@@ -1,9 +1,5 @@
 -- How long the lines and the name are at most: a number below 2^64 has at most 20 digits.
-use mathlib.Core.Path.{_≡_, ap}
-use mathlib.Core.List.{List}
-use Prim.Native.Nat.{ℕ, _+_, _^_, _≤_, _<_}
-use native.Mathlib.Omega.{arith}
-use lib.ListN.{length, length-append}
+use Rattle.fips197.proofs.Kit.{_≡_, ap, List, ℕ, _+_, _^_, _≤_, _<_, arith, length, length-append}
 use Rattle.printing.specs.Text.{ascii, labelled}
 use Rattle.printing.proofs.Lengths.{decimal-64}
 use Rattle.command.specs.Said.{countLine, itemLine, temporaryName}

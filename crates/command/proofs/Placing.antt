@@ -1,10 +1,5 @@
 -- What is said of one card packed.
-use mathlib.Core.Path.{_≡_, refl, _∙_, ap}
-use mathlib.Core.List.{List}
-use Prim.Native.Nat.{ℕ, _+_, _≤_}
-use native.Mathlib.Omega.{arith}
-use lib.ListN.{length}
-use borrow.Author.Tests.{eq-eqb, ne-eqb}
+use Rattle.fips197.proofs.Kit.{_≡_, refl, _∙_, ap, List, ℕ, _+_, _≤_, arith, length, eq-eqb, ne-eqb}
 use Rattle.files.specs.declared.Refusal.{Refusal}
 use Rattle.files.specs.Refusals.{refusal}
 use Rattle.files.proofs.Passing.{given, kept}

@@ -1,12 +1,6 @@
 -- The check polynomial of any list: its degree and the generator polynomial's make m, it takes to 0 what D(x) makes of any sequence of period m, and the
 -- generator polynomial is a multiple of D(x) there (Bézout's identity).
-use mathlib.Core.Path.{_≡_, refl, sym, ap, ap₂, _∙_}
-use mathlib.Core.Bool.{Bool, true, false, _&&_, xor}
-use mathlib.Core.List.{List, [], _∷_, _++_, map}
-use Prim.Native.Nat.{ℕ, zero, suc, _+_, _-_, _≤_, _<_}
-use native.Mathlib.Omega.{arith}
-use lib.Dec.{eqb, ltb}
-use lib.ListN.{set}
+use Rattle.fips197.proofs.Kit.{_≡_, refl, sym, ap, ap₂, _∙_, Bool, true, false, _&&_, xor, List, [], _∷_, _++_, map, ℕ, zero, suc, _+_, _-_, _≤_, _<_, arith, eqb, ltb, set}
 use Rattle.cipher.specs.Block.{if_then_else_, _⊕_, zeros}
 use Rattle.incidence.specs.Family.{parity}
 use Rattle.polynomials.specs.Polynomial.{longer, polySize, raised, gcd}

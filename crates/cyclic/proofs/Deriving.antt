@@ -1,12 +1,5 @@
 -- From the list to the pattern: the arrays of m + 1 coefficients, what they hold one after another, and where the call refuses.
-use mathlib.Core.Path.{_≡_, refl, sym, ap, ap₂, _∙_}
-use mathlib.Core.Bool.{true, false, _||_}
-use mathlib.Core.List.{List, _∷_, _++_}
-use Prim.Native.Nat.{ℕ, zero, suc, _+_, _-_, _≤_, _<_}
-use native.Mathlib.Omega.{arith}
-use lib.Dec.{eqb, ltb}
-use lib.ListN.{length, take, drop}
-use borrow.Author.Tests.{eq-eqb, ne-eqb}
+use Rattle.fips197.proofs.Kit.{_≡_, refl, sym, ap, ap₂, _∙_, true, false, _||_, List, _∷_, _++_, ℕ, zero, suc, _+_, _-_, _≤_, _<_, arith, eqb, ltb, length, take, drop, eq-eqb, ne-eqb}
 use Rattle.cipher.specs.Block.{zeros}
 use Rattle.incidence.proofs.Booleans.{or-first, or-second}
 use Rattle.polynomials.specs.Polynomial.{gcd, quotient}

@@ -1,14 +1,5 @@
 -- The steps back that a polynomial's terms stand for, written one behind another: those passed stand at the front.
-use mathlib.Core.Path.{_≡_, refl, sym, ap, ap₂, _∙_, subst}
-use mathlib.Core.Bool.{Bool, true, false}
-use mathlib.Core.List.{List, [], _∷_, _++_, append-assoc}
-use Prim.Native.Nat.{ℕ, suc, _+_, _-_, _≤_, _<_}
-use native.Mathlib.Omega.{arith}
-use native.Mathlib.Numerals.{add-one}
-use lib.Dec.{eqb}
-use lib.ListN.{length, getD, set, drop, length-append}
-use lib.Seq.{drop-cons, set-at}
-use borrow.Author.Tests.{ne-eqb}
+use Rattle.fips197.proofs.Kit.{_≡_, refl, sym, ap, ap₂, _∙_, subst, Bool, true, false, List, [], _∷_, _++_, append-assoc, ℕ, suc, _+_, _-_, _≤_, _<_, arith, add-one, eqb, length, getD, set, drop, length-append, drop-cons, set-at, ne-eqb}
 use Rattle.cipher.specs.Block.{if_then_else_}
 use Rattle.incidence.specs.Count.{indicator, listed}
 use Rattle.incidence.proofs.Counting.{count-most}

@@ -1,12 +1,5 @@
 -- Sums of terms, written into zeros: x^m + 1, and D(x) from the last member of the list to the first.
-use mathlib.Core.Path.{_≡_, refl, sym, ap, _∙_}
-use mathlib.Core.Bool.{Bool, true, false}
-use mathlib.Core.List.{List, [], _∷_, _++_}
-use Prim.Native.Nat.{ℕ, zero, suc, _-_, _≤_, _<_}
-use native.Mathlib.Omega.{arith}
-use lib.Dec.{ltb}
-use lib.ListN.{length, getD, set, drop, length-append, length-set, length-replicate}
-use lib.Seq.{drop-length, drop-cons}
+use Rattle.fips197.proofs.Kit.{_≡_, refl, sym, ap, _∙_, Bool, true, false, List, [], _∷_, _++_, ℕ, zero, suc, _-_, _≤_, _<_, arith, ltb, length, getD, set, drop, length-append, length-set, length-replicate, drop-length, drop-cons}
 use Rattle.cipher.specs.Block.{if_then_else_, zeros}
 use Rattle.polynomials.proofs.Dividing.{zeros-long}
 use Rattle.cyclic.specs.CyclicCode.{modulus, ofList}

@@ -1,14 +1,5 @@
 -- What the loops know, of the marks counted, of a row's items and of the rows compared: at first, after one turn more, and at the end.
-use mathlib.Core.Path.{_≡_, refl, sym, ap, ap₂, _∙_, subst}
-use mathlib.Core.Bool.{Bool, true, false, not, _&&_, _||_, true≢false}
-use mathlib.Core.List.{List}
-use mathlib.Core.Logic.{_⊎_, inl, inr}
-use Prim.Native.Nat.{ℕ, _+_, _-_, _≤_, _<_}
-use native.Mathlib.Omega.{arith}
-use native.Mathlib.Numerals.{add-one}
-use lib.Dec.{eqb, leb}
-use lib.ListN.{length, getD}
-use borrow.Author.Tests.{eqb-true, eq-eqb, ne-eqb, leb-true, le-leb}
+use Rattle.fips197.proofs.Kit.{_≡_, refl, sym, ap, ap₂, _∙_, subst, Bool, true, false, not, _&&_, _||_, true≢false, List, _⊎_, inl, inr, ℕ, _+_, _-_, _≤_, _<_, arith, add-one, eqb, leb, length, getD, eqb-true, eq-eqb, ne-eqb, leb-true, le-leb}
 use Rattle.incidence.specs.Count.{indicator, countUpTo, anyUpTo}
 use Rattle.incidence.specs.Family.{Family, itemsOf}
 use Rattle.incidence.specs.Report.{cleared, disagreeing}

@@ -1,14 +1,6 @@
 -- Of any matrix whose first t rows are independent: two lists of steps that yield row t + 1 have the same steps an odd number of times. So one
 -- choice of steps alone yields it, and no list of fewer does.
-use mathlib.Core.Path.{_≡_, refl, sym, ap, ap₂, _∙_}
-use mathlib.Core.Bool.{Bool, true, false, _&&_, xor, and-true, and-false, and-comm}
-use mathlib.Core.List.{List, [], _∷_, _++_}
-use mathlib.Core.Logic.{_⊎_, inl, inr}
-use Prim.Native.Nat.{ℕ, zero, suc, _+_, _-_, _≤_, _<_}
-use native.Mathlib.Omega.{arith}
-use lib.Dec.{eqb}
-use lib.ListN.{length}
-use borrow.Author.Tests.{eqb-true, eqb-false, eq-eqb, ne-eqb}
+use Rattle.fips197.proofs.Kit.{_≡_, refl, sym, ap, ap₂, _∙_, Bool, true, false, _&&_, xor, and-true, and-false, and-comm, List, [], _∷_, _++_, _⊎_, inl, inr, ℕ, zero, suc, _+_, _-_, _≤_, _<_, arith, eqb, length, eqb-true, eqb-false, eq-eqb, ne-eqb}
 use Rattle.cipher.specs.Block.{if_then_else_}
 use Rattle.incidence.specs.Count.{indicator, countUpTo, listed}
 use Rattle.incidence.specs.Family.{parity}

@@ -1,14 +1,7 @@
 -- The rows of a circulant are turns of one sequence of bits. What steps back say of one row they say of that sequence, at every place of it,
 -- and of every XOR of its turns. So where one of these has degree n, steps that reach fewer than m − n rows back yield no row: the argument
 -- from degrees, for any m and any list.
-use mathlib.Core.Path.{_≡_, refl, sym, ap, ap₂, _∙_}
-use mathlib.Core.Bool.{Bool, true, false, xor, true≢false}
-use mathlib.Core.List.{List, [], _∷_, map}
-use Prim.Native.Nat.{ℕ, _+_, _-_, _*_, _/_, _%_, _≤_, _<_}
-use native.Mathlib.Nat.{mod-add-mod, mod-lt, div-add-mod', add-mul-mod-self-right}
-use native.Mathlib.Omega.{arith}
-use lib.Dec.{ltb}
-use borrow.Author.Tests.{ltb-true, ltb-false}
+use Rattle.fips197.proofs.Kit.{_≡_, refl, sym, ap, ap₂, _∙_, Bool, true, false, xor, true≢false, List, [], _∷_, map, ℕ, _+_, _-_, _*_, _/_, _%_, _≤_, _<_, mod-add-mod, mod-lt, div-add-mod', add-mul-mod-self-right, arith, ltb, ltb-true, ltb-false}
 use Rattle.incidence.specs.Family.{parity}
 use Rattle.plane.specs.Plane.{member, on}
 use Rattle.plane.proofs.Cyclic.{on-inside}

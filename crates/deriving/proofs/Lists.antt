@@ -1,15 +1,7 @@
 -- Any difference list, and any m but 0: the pattern that the check polynomial gives yields every row behind the first t, t being its degree, no shorter
 -- pattern yields any row, and the first t rows are independent. Where there is a row behind them, that pattern is the only one within t, and none there has
 -- fewer steps.
-use mathlib.Core.Path.{_≡_, refl, sym, ap, ap₂, _∙_}
-use mathlib.Core.Bool.{Bool, true, false, _&&_, xor}
-use mathlib.Core.List.{List, [], _∷_, _++_, map}
-use Prim.Native.Nat.{ℕ, zero, suc, _+_, _-_, _%_, _≤_, _<_}
-use native.Mathlib.Nat.{add-mod-right, mod-eq-of-lt, zero-mod}
-use native.Mathlib.Omega.{arith}
-use lib.Dec.{eqb}
-use lib.ListN.{length, getD, take}
-use borrow.Author.Tests.{eq-eqb, ne-eqb}
+use Rattle.fips197.proofs.Kit.{_≡_, refl, sym, ap, ap₂, _∙_, Bool, true, false, _&&_, xor, List, [], _∷_, _++_, map, ℕ, zero, suc, _+_, _-_, _%_, _≤_, _<_, add-mod-right, mod-eq-of-lt, zero-mod, arith, eqb, length, getD, take, eq-eqb, ne-eqb}
 use Rattle.cipher.specs.Block.{if_then_else_}
 use Rattle.incidence.specs.Count.{listed}
 use Rattle.incidence.specs.Family.{parity}

@@ -1,10 +1,5 @@
 -- Of any matrix: steps that do not yield a row fail at a card, and rows none of which is had from those before it are independent.
-use mathlib.Core.Path.{_≡_, refl, sym, ap, ap₂, _∙_}
-use mathlib.Core.Bool.{Bool, true, false, xor}
-use mathlib.Core.List.{List, [], _∷_, _++_, map}
-use mathlib.Core.Logic.{_⊎_, inl, inr}
-use Prim.Native.Nat.{ℕ, zero, suc, _-_, _≤_}
-use native.Mathlib.Omega.{arith}
+use Rattle.fips197.proofs.Kit.{_≡_, refl, sym, ap, ap₂, _∙_, Bool, true, false, xor, List, [], _∷_, _++_, map, _⊎_, inl, inr, ℕ, zero, suc, _-_, _≤_, arith}
 use Rattle.cipher.specs.Block.{if_then_else_}
 use Rattle.incidence.specs.Count.{anyUpTo, listed}
 use Rattle.incidence.specs.Family.{parity}

@@ -1,12 +1,5 @@
 -- The difference lists in the code: their members are numbers of 16 bits, none above 273; and what the pattern of a list handed on is.
-use mathlib.Core.Path.{_≡_, refl, sym, ap, ap₂, _∙_}
-use mathlib.Core.Bool.{Bool, true, false}
-use mathlib.Core.List.{List, _++_}
-use Prim.Native.Nat.{ℕ, _-_, _≤_, _<_}
-use native.Mathlib.Omega.{arith}
-use lib.ListN.{length, getD, take, drop}
-use lib.Seq.{take-at}
-use borrow.Author.Tests.{le-ltb}
+use Rattle.fips197.proofs.Kit.{_≡_, refl, sym, ap, ap₂, _∙_, Bool, true, false, List, _++_, ℕ, _-_, _≤_, _<_, arith, length, getD, take, drop, take-at, le-ltb}
 use Rattle.incidence.proofs.Counting.{every, every-at}
 use Rattle.plane.specs.Table.{planeItems, differenceLists, differences}
 use Rattle.plane.proofs.Ranks.{under, under-at}

@@ -1,12 +1,6 @@
 -- The four planes: the patterns in use are those derived, and so no shorter patterns, and within t no others and none of fewer steps, yield their rows, and
 -- the tagged rows are independent. What is computed is one test over the four lists; the rest holds of any list (Lists).
-use mathlib.Core.Path.{_≡_, refl, subst}
-use mathlib.Core.Bool.{Bool, true, _&&_}
-use mathlib.Core.List.{List}
-use Prim.Native.Nat.{ℕ, suc, _+_, _-_, _^_, _≤_, _<_}
-use native.Mathlib.Omega.{arith}
-use lib.Dec.{eqb, ltb}
-use borrow.Author.Tests.{eqb-true, ltb-true}
+use Rattle.fips197.proofs.Kit.{_≡_, refl, subst, Bool, true, _&&_, List, ℕ, suc, _+_, _-_, _^_, _≤_, _<_, arith, eqb, ltb, eqb-true, ltb-true}
 use Rattle.cipher.specs.Block.{_⊕_, same}
 use Rattle.cipher.proofs.Xor.{same-true}
 use Rattle.incidence.proofs.Booleans.{and-left, and-right}

@@ -1,13 +1,5 @@
 -- The lines of the four sizes: one more behind the others, those of the patterns in use, and that they fit 256 bytes.
-use mathlib.Core.Path.{_≡_, refl, sym, ap, ap₂, _∙_}
-use mathlib.Core.Bool.{Bool, true}
-use mathlib.Core.List.{List, _++_}
-use Prim.Native.Nat.{ℕ, zero, suc, _+_, _-_, _≤_}
-use native.Mathlib.Nat.{zero-add}
-use native.Mathlib.Omega.{arith}
-use lib.Dec.{leb}
-use lib.ListN.{length, take, drop}
-use borrow.Author.Tests.{leb-true}
+use Rattle.fips197.proofs.Kit.{_≡_, refl, sym, ap, ap₂, _∙_, Bool, true, List, _++_, ℕ, zero, suc, _+_, _-_, _≤_, zero-add, arith, leb, length, take, drop, leb-true}
 use Rattle.incidence.proofs.Counting.{every, every-at}
 use Rattle.plane.specs.Table.{patternLists, planePattern}
 use Rattle.printing.specs.Text.{ascii, digits, decimal, labelled, over}

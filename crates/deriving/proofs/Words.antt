@@ -1,11 +1,5 @@
 -- The words of a pattern: one step more, and the room that fewer take.
-use mathlib.Core.Path.{_≡_, refl, sym, ap, ap₂, _∙_}
-use mathlib.Core.List.{List, [], _∷_, _++_, append-nil, append-assoc}
-use Prim.Native.Nat.{ℕ, zero, suc, _+_, _≤_, _<_}
-use native.Mathlib.Omega.{arith}
-use native.Mathlib.Numerals.{add-one}
-use lib.ListN.{length, getD, take, drop, length-append}
-use lib.Seq.{take-at}
+use Rattle.fips197.proofs.Kit.{_≡_, refl, sym, ap, ap₂, _∙_, List, [], _∷_, _++_, append-nil, append-assoc, ℕ, zero, suc, _+_, _≤_, _<_, arith, add-one, length, getD, take, drop, length-append, take-at}
 use Rattle.printing.specs.Text.{labelled}
 use Rattle.deriving.specs.Lines.{words}
 use Rattle.deriving.specs.Derived.{derived}

@@ -1,14 +1,6 @@
 -- Demand 2: a tag file is accepted under a seal key exactly when its bytes are what the writer lays out and seals for some size code, count
 -- and tags.
-use mathlib.Core.Path.{_≡_, refl, sym, ap, ap₂, _∙_}
-use mathlib.Core.Bool.{true, _&&_}
-use mathlib.Core.List.{List, [], _∷_, _++_}
-use Prim.Native.Nat.{ℕ, zero, suc, _+_, _-_, _*_, _≤_}
-use native.Mathlib.Omega.{arith}
-use lib.Dec.{eqb, leb}
-use lib.ListN.{length, getD, take, drop, length-append, length-take, length-drop, take-append-drop}
-use lib.Seq.{take-add, drop-cons, take-take, take-at, drop-at, take-nil}
-use borrow.Author.Tests.{leb-true, le-leb, eqb-true, eq-eqb}
+use Rattle.fips197.proofs.Kit.{_≡_, refl, sym, ap, ap₂, _∙_, true, _&&_, List, [], _∷_, _++_, ℕ, zero, suc, _+_, _-_, _*_, _≤_, arith, eqb, leb, length, getD, take, drop, length-append, length-take, length-drop, take-append-drop, take-add, drop-cons, take-take, take-at, drop-at, take-nil, leb-true, le-leb, eqb-true, eq-eqb}
 use Rattle.cipher.specs.Block.{Bytes, same}
 use Rattle.cipher.specs.Number.{number, bigEndian}
 use Rattle.cipher.specs.Cmac.{cmac}

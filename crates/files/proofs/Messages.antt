@@ -1,17 +1,5 @@
 -- The message file: what each check of the code settles, and where the items of a file that is not refused lie.
-use mathlib.Core.Path.{_≡_, refl, sym, ap, ap₂, _∙_}
-use mathlib.Core.Bool.{Bool, true, false, _&&_}
-use mathlib.Core.Logic.{_⊎_, inl, inr}
-use mathlib.Core.List.{List, [], _∷_}
-use Prim.Native.Nat.{ℕ, zero, suc, _+_, _-_, _≤_, _<_}
-use native.Mathlib.Nat.{not-suc-le-zero, le-of-suc-le-suc, eq-or-lt-of-le}
-use native.Mathlib.Numerals.{add-one}
-use native.Mathlib.Omega.{arith}
-use lib.Dec.{eqb, leb}
-use lib.ListN.{length, getD, take, drop}
-use lib.Seq.{drop-cons}
-use denote.Ref.{RefT, now, ptr}
-use borrow.Author.Tests.{leb-true, le-leb, lt-leb, eq-eqb, ne-eqb}
+use Rattle.fips197.proofs.Kit.{_≡_, refl, sym, ap, ap₂, _∙_, Bool, true, false, _&&_, _⊎_, inl, inr, List, [], _∷_, ℕ, zero, suc, _+_, _-_, _≤_, _<_, not-suc-le-zero, le-of-suc-le-suc, eq-or-lt-of-le, add-one, arith, eqb, leb, length, getD, take, drop, drop-cons, RefT, now, ptr, leb-true, le-leb, lt-leb, eq-eqb, ne-eqb}
 use Rattle.cipher.specs.Block.{same}
 use Rattle.cipher.specs.Number.{number}
 use Rattle.cipher.proofs.Xor.{same-true, same-eq}

@@ -1,13 +1,5 @@
 -- The tag file: what each check of the code settles, and that what is accepted is what the writer lays out and seals.
-use mathlib.Core.Path.{_≡_, sym, ap, ap₂, _∙_}
-use mathlib.Core.Bool.{Bool, true, false, _&&_}
-use mathlib.Core.List.{List}
-use Prim.Native.Nat.{ℕ, _+_, _-_, _*_, _≤_, _<_}
-use native.Mathlib.Omega.{arith}
-use lib.Dec.{eqb, leb}
-use lib.ListN.{length, take, drop, length-drop}
-use lib.Seq.{take-all}
-use borrow.Author.Tests.{le-leb, lt-leb, eq-eqb, ne-eqb}
+use Rattle.fips197.proofs.Kit.{_≡_, sym, ap, ap₂, _∙_, Bool, true, false, _&&_, List, ℕ, _-_, _≤_, _<_, arith, eqb, leb, length, take, drop, length-drop, take-all, le-leb, lt-leb}
 use Rattle.cipher.specs.Block.{same}
 use Rattle.cipher.specs.Cmac.{cmac}
 use Rattle.cipher.proofs.Xor.{same-eq}
@@ -15,7 +7,7 @@ use Rattle.sizes.specs.Sizes.{known, familyOf}
 use Rattle.files.specs.Refusals.{refusal, unless}
 use Rattle.files.specs.TagFile.{tagPrefix, codeOf, countOf, countFits, fileSize, macOf, bodyOf, refuse6, refuse20}
 use Rattle.incidence.proofs.Booleans.{and-both, and-false-l, and-false-r}
-use Rattle.files.proofs.Passing.{unless-true, unless-false}
+use Rattle.files.proofs.Passing.{unless-false}
 use Rattle.files.proofs.Messages.{different}
 
 -- ---- size code and count

@@ -1,12 +1,6 @@
 -- What a crate above may use of the ciphers: sizes and byte ranges, and that deciphering undoes enciphering and the reverse.
 -- It needs nothing of what AES is, nor which engine computes it.
-use mathlib.Core.Path.{_≡_, ap, _∙_}
-use mathlib.Core.List.{List}
-use Prim.Native.Nat.{ℕ, _<_}
-use native.Mathlib.Omega.{arith}
-use lib.ListN.{length, getD}
-use mir.Syntax.{w8}
-use mir.Val.{Fits}
+use Rattle.fips197.proofs.Kit.{_≡_, ap, _∙_, List, ℕ, _<_, arith, length, getD, w8, Fits}
 use Rattle.fips197.specs.Block.{Block}
 use Rattle.fips197.specs.Aes.{keyExpansion, encipher, decipher, cipher, invCipher}
 use Rattle.fips197.proofs.Xor.{bytes-from}

@@ -1,13 +1,6 @@
 -- One law for every loop that writes an array from the front: where it is to become t, after i turns the array l is `part i t l`.
 -- A loop's invariant is that equation; a turn is `part-turn`, what is not yet written is `part-read`, and the end is `part-done`.
-use mathlib.Core.Path.{_≡_, refl, sym, ap, _∙_}
-use mathlib.Core.List.{List, [], _∷_, _++_}
-use Prim.Native.Nat.{ℕ, zero, suc, _+_, _≤_, _<_, zero-le}
-use native.Mathlib.Nat.{not-suc-le-zero, le-of-suc-le-suc}
-use native.Mathlib.Numerals.{add-one}
-use lib.ListN.{length, getD, set, take, drop, drop-of-length-le}
-use lib.Seq.{drop-nil}
-use native.Mathlib.Omega.{arith}
+use Rattle.fips197.proofs.Kit.{_≡_, refl, sym, ap, _∙_, List, [], _∷_, _++_, ℕ, zero, suc, _+_, _≤_, _<_, zero-le, not-suc-le-zero, le-of-suc-le-suc, add-one, length, getD, set, take, drop, drop-of-length-le, drop-nil, arith}
 
 abbrev pub part : ℕ → List ℕ → List ℕ → List ℕ
 part i t l = take i t ++ drop i l

@@ -1,9 +1,5 @@
 -- MixColumns and its inverse undo each other: the product is additive, so that each is algebra over xtimes, and no table is needed.
-use mathlib.Core.Path.{_≡_, refl, sym, ap, ap₂, _∙_}
-use Prim.Native.Nat.{ℕ, zero, suc, _*_, _/_, _%_, _<_}
-use native.Mathlib.Nat.{zero-lt-suc, add-zero, zero-mul, one-mul, mul-zero}
-use native.Mathlib.Omega.{arith}
-use lib.Bits.{bitXor, xor-block, xor-mod, xor-shr, xor-lt, xor-self, xor-comm, xor-zero-r}
+use Rattle.fips197.proofs.Kit.{_≡_, refl, sym, ap, ap₂, _∙_, ℕ, zero, suc, _*_, _/_, _%_, _<_, zero-lt-suc, add-zero, zero-mul, one-mul, mul-zero, arith, bitXor, xor-block, xor-mod, xor-shr, xor-lt, xor-self, xor-comm, xor-zero-r}
 use Rattle.fips197.specs.Field.{xtimes, productBy, _•_}
 use Rattle.fips197.specs.Aes.{mixed, invMixed}
 use Rattle.fips197.proofs.Xor.{mod2-lt, xor-assoc, xor-left, sums}

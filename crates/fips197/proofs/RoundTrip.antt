@@ -1,13 +1,7 @@
 -- The cipher and the inverse cipher undo each other with any schedule of blocks: an induction over the rounds, step by step.
-use mathlib.Core.Path.{_≡_, sym, ap, ap₂, _∙_}
-use mathlib.Core.List.{List, map}
-use Prim.Native.Nat.{ℕ, zero, suc, _+_, _-_, _<_}
-use native.Mathlib.Nat.{not-suc-le-zero}
-use native.Mathlib.Omega.{arith}
-use native.Mathlib.Numerals.{add-one}
+use Rattle.fips197.proofs.Kit.{_≡_, sym, ap, ap₂, _∙_, List, map, ℕ, zero, suc, _+_, _-_, _<_, not-suc-le-zero, arith, add-one, length}
 use Rattle.fips197.specs.Block.{Block, _⊕_}
 use Rattle.fips197.specs.Aes.{invSbox, subBytes, invSubBytes, shiftRows, invShiftRows, mixColumns, invMixColumns, roundKey, rounds, cipher, invRounds, invCipher}
-use lib.ListN.{length}
 use Rattle.fips197.proofs.Xor.{⊕-length, ⊕-block, block-cancel}
 use Rattle.fips197.proofs.States.{subBytes-block, invSubBytes-block, shiftRows-block, invShiftRows-block, mixColumns-block, invMixColumns-block}
 use Rattle.fips197.proofs.States.{invSubBytes-subBytes, subBytes-invSubBytes, invShiftRows-shiftRows, shiftRows-invShiftRows, invMixColumns-mixColumns, mixColumns-invMixColumns}

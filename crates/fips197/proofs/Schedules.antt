@@ -1,14 +1,5 @@
 -- The key schedule: its length, its bytes and its round keys, and what the code's loop keeps of it.
-use mathlib.Core.Path.{_≡_, refl, sym, ap, ap₂, _∙_}
-use mathlib.Core.Bool.{Bool, true, false}
-use mathlib.Core.List.{List, [], _∷_, _++_, map}
-use Prim.Native.Nat.{ℕ, zero, suc, _+_, _-_, _*_, _/_, _%_, _≤_, _<_}
-use native.Mathlib.Nat.{zero-lt-suc, add-zero}
-use native.Mathlib.Omega.{arith}
-use lib.Dec.{eqb}
-use lib.ListN.{length, getD, set, take, drop, length-append, length-take, length-drop, take-append-drop}
-use lib.Seq.{take-append-le, drop-append-le, take-at, take-all, take-add, drop-drop, getD-take, getD-drop, sets-eq}
-use lib.Bits.{bitXor, xor-zero-r}
+use Rattle.fips197.proofs.Kit.{_≡_, refl, sym, ap, ap₂, _∙_, Bool, true, false, List, [], _∷_, _++_, map, ℕ, zero, suc, _+_, _-_, _*_, _/_, _%_, _≤_, _<_, zero-lt-suc, add-zero, arith, eqb, length, getD, set, take, drop, length-append, length-take, length-drop, take-append-drop, take-append-le, drop-append-le, take-at, take-all, take-add, drop-drop, getD-take, getD-drop, sets-eq, bitXor, xor-zero-r, eq-eqb, ne-eqb}
 use Rattle.fips197.specs.Block.{if_then_else_, Bytes, Block, _⊕_}
 use Rattle.fips197.specs.Field.{power, powerBy, _•_}
 use Rattle.fips197.specs.Aes.{sbox, word, rotWord, subWord, rcon, temp, expanded, keyExpansion, roundKey}
@@ -16,7 +7,6 @@ use Rattle.fips197.proofs.Xor.{⊕-length, ⊕-bytes, byte-at, append-b
 use Rattle.fips197.proofs.TableRules.{sbox-lt}
 use Rattle.fips197.proofs.Mixing.{product-lt}
 use Rattle.fips197.proofs.States.{elements-of}
-use borrow.Author.Tests.{eq-eqb, ne-eqb}
 
 -- ---- words
 

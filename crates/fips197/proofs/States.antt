@@ -1,8 +1,5 @@
 -- The steps of a round take blocks to blocks, and each undoes its inverse, both ways.
-use mathlib.Core.Path.{_≡_, refl, sym, ap, ap₂, _∙_}
-use mathlib.Core.List.{List, [], _∷_, map}
-use Prim.Native.Nat.{ℕ, zero, suc, _+_, _-_, _*_, _/_, _%_, _<_}
-use lib.ListN.{length, getD, length-map}
+use Rattle.fips197.proofs.Kit.{_≡_, refl, sym, ap, ap₂, _∙_, List, [], _∷_, map, ℕ, zero, suc, _+_, _-_, _*_, _/_, _%_, _<_, length, getD, length-map}
 use Rattle.fips197.specs.Block.{Bytes, Block, tabulate}
 use Rattle.fips197.specs.Aes.{cell, state, sbox, invSbox, subBytes, invSubBytes, shiftRows, invShiftRows, columnwise, mixed, invMixed, mixColumns, invMixColumns}
 use Rattle.fips197.proofs.Xor.{byte-at, map-bytes}

@@ -1,13 +1,6 @@
 -- A rule of a table, proved at all of its entries by one test that antt computes, one entry after the other.
 -- Assumes nothing.
-use mathlib.Core.Path.{_≡_, refl, _∙_, subst, sym}
-use mathlib.Core.Bool.{Bool, true, false}
-use mathlib.Core.List.{List, [], _∷_}
-use Prim.Native.Nat.{ℕ, zero, suc, _+_, _<_}
-use native.Mathlib.Nat.{add-zero, zero-add, add-suc, suc-add, le-of-suc-le-suc, not-suc-le-zero, eq-or-lt-of-le}
-use mathlib.Core.Logic.{⊎-elim}
-use lib.Dec.{T}
-use lib.ListN.{length, getD}
+use Rattle.fips197.proofs.Kit.{_≡_, refl, _∙_, subst, sym, Bool, true, false, List, [], _∷_, ℕ, zero, suc, _+_, _<_, add-zero, zero-add, add-suc, suc-add, le-of-suc-le-suc, not-suc-le-zero, eq-or-lt-of-le, ⊎-elim, T, length, getD}
 use Rattle.fips197.specs.Block.{tabulate}
 
 abbrev pub both : Bool → Bool → Bool

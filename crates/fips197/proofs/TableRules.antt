@@ -1,19 +1,9 @@
 -- FIPS 197's tables as their rules give them. The code's tables are compared with these, entry by entry, by computation; no table is
 -- written down here. What the rules give is computed at every byte (Table's `below`).
-use mathlib.Core.Path.{_≡_, refl, sym, ap, _∙_, subst}
-use mathlib.Core.Bool.{Bool, true, false}
-use mathlib.Core.List.{List, _∷_}
-use Prim.Native.Nat.{ℕ, zero, suc, _+_, _-_, _%_, _≤_, _<_}
-use native.Mathlib.Nat.{not-suc-le-zero, le-of-suc-le-suc}
-use native.Mathlib.Omega.{arith}
-use lib.Arith.{lt-of-le-ne}
-use lib.Dec.{T, eqb, eqb→eq, ltb, ltb→lt}
-use lib.ListN.{getD}
-use lib.Bits.{bitXor}
+use Rattle.fips197.proofs.Kit.{_≡_, refl, sym, ap, _∙_, subst, Bool, true, false, List, _∷_, ℕ, zero, suc, _+_, _-_, _%_, _≤_, _<_, not-suc-le-zero, le-of-suc-le-suc, arith, lt-of-le-ne, T, eqb, eqb→eq, ltb, ltb→lt, getD, bitXor, eqb-true, eqb-false}
 use Rattle.fips197.specs.Block.{Tabulates, tabulate}
 use Rattle.fips197.specs.Field.{xtimes, productBy, _•_, powerBy, power, inverse}
 use Rattle.fips197.specs.Aes.{bit, byteOf, affine, sbox, preimage, invSbox}
-use borrow.Author.Tests.{eqb-true, eqb-false}
 use Rattle.fips197.proofs.Table.{tabulate-at, both, both-left, both-right, below}
 
 -- ---- the S-box is the inverse in the field, then the affine map

@@ -1,12 +1,5 @@
 -- Words of four bytes: XOR, doubling in the field, turning and mixing go byte by byte; four words are a state.
-use mathlib.Core.Path.{_≡_, sym, ap, ap₂, _∙_, subst}
-use mathlib.Core.List.{List, [], _∷_, _++_, map}
-use native.Mathlib.Nat.{div-div-eq-div-mul, div-lt-iff-lt-mul, mod-add-div', mod-eq-of-lt}
-use lib.Pow.{pow-pos}
-use Prim.Native.Nat.{ℕ, _+_, _*_, _/_, _%_, _^_, _≤_, _<_}
-use native.Mathlib.Omega.{arith}
-use lib.ListN.{length, getD}
-use lib.Bits.{bitXor, bitAnd, xor-shr, xor-mod, and-shr, and-mod, and-mask, and-high, and-le-r}
+use Rattle.fips197.proofs.Kit.{_≡_, sym, ap, ap₂, _∙_, subst, List, [], _∷_, _++_, map, div-div-eq-div-mul, div-lt-iff-lt-mul, mod-add-div', mod-eq-of-lt, pow-pos, ℕ, _+_, _*_, _/_, _%_, _^_, _≤_, _<_, arith, length, getD, bitXor, bitAnd, xor-shr, xor-mod, and-shr, and-mod, and-mask, and-high, and-le-r, lit<}
 use Rattle.fips197.specs.Block.{_⊕_}
 use Rattle.fips197.specs.Field.{xtimes}
 use Rattle.fips197.specs.Aes.{rotWord, mixed, invMixed, shiftRows, invShiftRows, columnwise, word, roundKey}
@@ -14,7 +7,6 @@ use Rattle.fips197.specs.Words.{bytesOf, stateOf, column}
 use Rattle.fips197.proofs.Mixing.{mixed-words, invMixed-words}
 use Rattle.fips197.proofs.Schedules.{word-is, roundKey-words}
 use Rattle.fips197.proofs.Xor.{mod2-lt}
-use lib.Dec.{lit<}
 
 -- the word of four bytes
 abbrev pub packed : ℕ → ℕ → ℕ → ℕ → ℕ

@@ -1,12 +1,5 @@
 -- The laws of XOR, on numbers and on lists, that the kit lacks: associative, commutative, its own inverse; lengths and byte ranges.
-use mathlib.Core.Path.{_≡_, refl, sym, ap, ap₂, _∙_}
-use mathlib.Core.List.{List, [], _∷_, _++_, map}
-use Prim.Native.Nat.{ℕ, zero, suc, _+_, _*_, _/_, _%_, _≤_, _<_}
-use native.Mathlib.Nat.{mod-lt, zero-lt-suc, not-suc-le-zero, le-of-suc-le-suc}
-use native.Mathlib.Omega.{arith}
-use lib.Arith.{bin-ind, digits-mod}
-use lib.ListN.{length, getD, take, drop}
-use lib.Bits.{bitXor, differ, xor-step, xor-shr, xor-comm, xor-self, xor-zero-r, xor-lt}
+use Rattle.fips197.proofs.Kit.{_≡_, refl, sym, ap, ap₂, _∙_, List, [], _∷_, _++_, map, ℕ, zero, suc, _+_, _*_, _/_, _%_, _≤_, _<_, mod-lt, zero-lt-suc, not-suc-le-zero, le-of-suc-le-suc, arith, bin-ind, digits-mod, length, getD, take, drop, bitXor, differ, xor-step, xor-shr, xor-comm, xor-self, xor-zero-r, xor-lt}
 use Rattle.fips197.specs.Block.{Bytes, Block, _⊕_, zeros}
 
 -- ---- on numbers

@@ -1,12 +1,5 @@
 -- What was packed is read back, and what each function packs.
-use mathlib.Core.Path.{_≡_, refl, sym, ap, _∙_, subst}
-use mathlib.Core.Bool.{Bool, true, false, not}
-use mathlib.Core.List.{List}
-use Prim.Native.Nat.{ℕ, _+_, _*_, _/_, _%_, _≤_, _<_}
-use native.Mathlib.Omega.{arith}
-use lib.Dec.{eqb}
-use lib.ListN.{length}
-use borrow.Author.Tests.{eqb-true, eqb-false}
+use Rattle.fips197.proofs.Kit.{_≡_, refl, sym, ap, _∙_, subst, Bool, true, false, not, List, ℕ, _+_, _*_, _/_, _%_, _≤_, _<_, arith, eqb, length, eqb-true, eqb-false}
 use Rattle.incidence.specs.Count.{indicator}
 use Rattle.incidence.specs.Report.{named, numberNamed, disagreeing, meaning}
 use Rattle.incidence.specs.declared.Answer.{Answer}

@@ -1,10 +1,5 @@
 -- Every refusal's place is at most 65,536, so it is read back whole from the number that C gets.
-use mathlib.Core.Bool.{Bool, true, false, _&&_}
-use mathlib.Core.List.{List, [], _∷_}
-use Prim.Native.Nat.{ℕ, zero, suc, _+_, _≤_, _<_}
-use native.Mathlib.Omega.{arith}
-use lib.Dec.{eqb, leb}
-use lib.ListN.{length, take, drop, length-take}
+use Rattle.fips197.proofs.Kit.{Bool, true, false, _&&_, List, [], _∷_, ℕ, zero, suc, _+_, _≤_, _<_, arith, eqb, leb, length, take, drop, length-take}
 use Rattle.cipher.specs.Block.{if_then_else_, Bytes, same}
 use Rattle.cipher.specs.Cmac.{cmac}
 use Rattle.cipher.specs.Number.{numberOf, number}

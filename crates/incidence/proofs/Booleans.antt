@@ -1,7 +1,5 @@
 -- Facts about tests that are passed or failed.
-use mathlib.Core.Path.{_≡_, refl, sym, _∙_}
-use mathlib.Core.Bool.{Bool, true, false, _&&_, _||_, Bool·beq, true≢false}
-use mathlib.Core.Logic.{_⊎_, inl, inr}
+use Rattle.fips197.proofs.Kit.{_≡_, refl, sym, _∙_, Bool, true, false, _&&_, _||_, Bool·beq, true≢false, _⊎_, inl, inr}
 
 pub and-left : (a b : Bool) → a && b ≡ true → a ≡ true
 and-left true b h = refl

@@ -1,11 +1,5 @@
 -- The laws of `count` and `any`.
-use mathlib.Core.Path.{_≡_, refl, sym, ap, ap₂, subst}
-use mathlib.Core.Bool.{Bool, true, false, not, _&&_, _||_, true≢false}
-use mathlib.Core.Logic.{_⊎_, inl, inr}
-use Prim.Native.Nat.{ℕ, zero, suc, _+_, _-_, _≤_, _<_}
-use native.Mathlib.Omega.{arith}
-use lib.Dec.{ltb, leb}
-use borrow.Author.Tests.{ltb-true, ltb-false, leb-true, le-leb}
+use Rattle.fips197.proofs.Kit.{_≡_, refl, sym, ap, ap₂, subst, Bool, true, false, not, _&&_, _||_, true≢false, _⊎_, inl, inr, ℕ, zero, suc, _+_, _-_, _≤_, _<_, arith, ltb, leb, ltb-true, ltb-false, leb-true, le-leb}
 use Rattle.incidence.specs.Count.{indicator, countUpTo, anyUpTo, inside}
 use Rattle.incidence.proofs.Booleans.{and-left, and-right, and-both, or-cases, or-first, or-second, not-passed}
 

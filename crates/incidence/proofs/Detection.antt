@@ -1,12 +1,6 @@
 -- The detection theorem (demand 3; 000, Proposition 1), for any lawful family and any test of its rows that is tied to the changes. It
 -- mentions no size, no difference list and no cipher.
-use mathlib.Core.Path.{_≡_, refl, sym, ap, _∙_, subst}
-use mathlib.Core.Bool.{Bool, true, false, not, _&&_}
-use mathlib.Core.Logic.{_⊎_, inl, inr, _↔_}
-use Prim.Native.Nat.{ℕ, zero, suc, _≤_, _<_}
-use native.Mathlib.Omega.{arith}
-use lib.Dec.{leb}
-use borrow.Author.Tests.{le-leb, lt-leb, not-true}
+use Rattle.fips197.proofs.Kit.{_≡_, refl, sym, ap, _∙_, subst, Bool, true, false, not, _&&_, _⊎_, inl, inr, _↔_, ℕ, zero, suc, _≤_, _<_, arith, leb, le-leb, lt-leb, not-true}
 use Rattle.incidence.specs.Count.{countUpTo, anyUpTo}
 use Rattle.incidence.specs.Family.{Family, Separates, Lawful}
 use Rattle.incidence.specs.Report.{cleared, named, numberNamed, disagreeing, holdsNamed, someUnexplained, answer}

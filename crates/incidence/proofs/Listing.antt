@@ -1,12 +1,5 @@
 -- The laws of `listed`: its length is the count, its members are those that pass, and they rise.
-use mathlib.Core.Path.{_≡_, refl, sym, ap, ap₂, _∙_, subst}
-use mathlib.Core.Bool.{Bool, true, false}
-use mathlib.Core.List.{List, [], _∷_, _++_}
-use mathlib.Core.Logic.{_⊎_, inl, inr}
-use Prim.Native.Nat.{ℕ, zero, suc, _+_, _-_, _≤_, _<_}
-use native.Mathlib.Omega.{arith}
-use lib.ListN.{length, getD, length-append, List·getD-append}
-use lib.Seq.{getD-at}
+use Rattle.fips197.proofs.Kit.{_≡_, refl, sym, ap, ap₂, _∙_, subst, Bool, true, false, List, [], _∷_, _++_, _⊎_, inl, inr, ℕ, zero, suc, _+_, _-_, _≤_, _<_, arith, length, getD, length-append, List·getD-append, getD-at}
 use Rattle.cipher.specs.Block.{if_then_else_}
 use Rattle.incidence.specs.Count.{indicator, countUpTo, listed}
 use Rattle.incidence.specs.Family.{Family, rowsOf, itemsOf}

@@ -1,9 +1,5 @@
 -- 000, the proof of Proposition 2: where each item is on more than d rows and two different ones share at most one, the matrix is d-disjunct.
-use mathlib.Core.Path.{_≡_, refl, sym, ap}
-use mathlib.Core.Bool.{Bool, true, false, not, _&&_, true≢false}
-use mathlib.Core.Logic.{_⊎_, inl, inr}
-use Prim.Native.Nat.{ℕ, zero, suc, _+_, _≤_, _<_}
-use native.Mathlib.Omega.{arith}
+use Rattle.fips197.proofs.Kit.{_≡_, refl, sym, ap, Bool, true, false, not, _&&_, true≢false, _⊎_, inl, inr, ℕ, zero, suc, _+_, _≤_, _<_, arith}
 use Rattle.incidence.specs.Count.{indicator, countUpTo}
 use Rattle.incidence.specs.Family.{Family, Disjunct}
 use Rattle.incidence.proofs.Booleans.{and-left, and-right, and-both, not-both}

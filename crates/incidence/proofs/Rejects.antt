@@ -1,9 +1,6 @@
 -- What demand 3, as `Detects` states it, rules out by itself, whatever the family and the code: a report that names every item, one that
 -- names none, and one that always says "beyond". And how the statement passes to what is equal to it or asks for more.
-use mathlib.Core.Path.{_≡_, refl, _∙_}
-use mathlib.Core.Bool.{Bool, true, false}
-use Prim.Native.Nat.{ℕ, _≤_, _<_}
-use native.Mathlib.Omega.{arith}
+use Rattle.fips197.proofs.Kit.{_≡_, refl, _∙_, Bool, true, false, ℕ, _≤_, _<_, arith}
 use Rattle.incidence.specs.Count.{countUpTo}
 use Rattle.incidence.specs.Detection.{Detects}
 use Rattle.incidence.specs.declared.Answer.{Answer}

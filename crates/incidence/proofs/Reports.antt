@@ -1,11 +1,5 @@
 -- The three answers of a report, each with its case.
-use mathlib.Core.Path.{_≡_, refl, sym, ap, _∙_}
-use mathlib.Core.Bool.{Bool, true, false, not, _&&_, true≢false}
-use mathlib.Core.Logic.{_↔_}
-use Prim.Native.Nat.{ℕ, _≤_, _<_}
-use native.Mathlib.Omega.{arith}
-use lib.Dec.{eqb, leb}
-use borrow.Author.Tests.{eqb-true, eqb-false, leb-true, leb-false, eq-eqb, ne-eqb, le-leb, lt-leb}
+use Rattle.fips197.proofs.Kit.{_≡_, refl, sym, ap, _∙_, Bool, true, false, not, _&&_, true≢false, _↔_, ℕ, _≤_, _<_, arith, eqb, leb, eqb-true, eqb-false, leb-true, leb-false, eq-eqb, ne-eqb, le-leb, lt-leb}
 use Rattle.cipher.specs.Block.{if_then_else_}
 use Rattle.incidence.specs.Report.{meaning, answerBy}
 use Rattle.incidence.specs.declared.Answer.{Answer}

@@ -1,7 +1,5 @@
 -- A report goes by the tests of the family's rows alone: tests that are equal there give the same report.
-use mathlib.Core.Path.{_≡_, ap, ap₂}
-use mathlib.Core.Bool.{Bool, not, _&&_}
-use Prim.Native.Nat.{ℕ, _≤_}
+use Rattle.fips197.proofs.Kit.{_≡_, ap, ap₂, Bool, not, _&&_, ℕ, _≤_}
 use Rattle.incidence.specs.Family.{Family}
 use Rattle.incidence.specs.Report.{cleared, named, numberNamed, disagreeing, holdsNamed, someUnexplained, answer}
 use Rattle.incidence.proofs.Counting.{count-ext, any-ext}

@@ -1,14 +1,7 @@
 -- The laws of row sums: made rows add up, a row without a changed place keeps its sum, a change of one place adds both values, and a
 -- message's row sums are had back from those of its tagged rows.
-use mathlib.Core.Path.{_≡_, refl, sym, ap, ap₂, _∙_, subst}
-use mathlib.Core.Bool.{Bool, true, false, xor}
-use mathlib.Core.List.{List, [], _∷_}
-use mathlib.Core.Logic.{_⊎_, inl, inr}
-use Prim.Native.Nat.{ℕ, zero, suc, _≤_, _<_}
-use native.Mathlib.Omega.{arith}
-use lib.Dec.{eqb}
-use lib.ListN.{length, getD}
-use borrow.Author.Tests.{eqb-true, eqb-false}
+use Rattle.fips197.proofs.Kit.{_≡_, refl, sym, ap, ap₂, _∙_, subst, Bool, true, false, List, [], _∷_, _⊎_, inl, inr, ℕ, zero, suc, _≤_, _<_, arith, eqb, length, getD, eqb-true, eqb-false}
+use mathlib.Core.Bool.{xor}
 use Rattle.cipher.specs.Block.{if_then_else_, _⊕_, zeros}
 use Rattle.cipher.proofs.Xor.{⊕-comm, ⊕-assoc, ⊕-length, ⊕-self, ⊕-zeros, ⊕-cancel}
 use Rattle.incidence.specs.Family.{Family, Lawful, Earlier, parity}

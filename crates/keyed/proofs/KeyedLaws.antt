@@ -1,10 +1,6 @@
 -- Hashes, masks and tags are blocks; a tag gives its sum back, and a sum its tag; what a key made ready or expanded gives is what the key
 -- gives; and the walks over many blocks.
-use mathlib.Core.Path.{_≡_, refl, sym, ap, ap₂, _∙_}
-use mathlib.Core.List.{List, _++_}
-use Prim.Native.Nat.{ℕ, zero, suc, _+_, _*_, _≤_, _<_}
-use native.Mathlib.Omega.{arith}
-use lib.ListN.{length, take, drop, length-take, length-drop}
+use Rattle.fips197.proofs.Kit.{_≡_, refl, ap, _∙_, List, _++_, ℕ, zero, suc, _+_, _*_, _≤_, _<_, arith, length, take, drop, length-take, length-drop}
 use Rattle.cipher.specs.Block.{Bytes, Block, _⊕_, zeros, slot, listOf}
 use Rattle.cipher.specs.Number.{bigEndian}
 use Rattle.cipher.specs.Aes.{keyExpansion, cipher, invCipher, encipher, decipher}

@@ -1,13 +1,5 @@
 -- The file of a list of items: it grows by one item with each append, it is not refused, and it holds the items in order.
-use mathlib.Core.Path.{_≡_, refl, sym, ap, ap₂, _∙_}
-use mathlib.Core.Bool.{true}
-use mathlib.Core.List.{List, [], _∷_, _++_, append-assoc, append-nil}
-use Prim.Native.Nat.{ℕ, zero, suc, _+_, _-_, _≤_, _<_}
-use native.Mathlib.Numerals.{add-one}
-use native.Mathlib.Omega.{arith}
-use lib.ListN.{length, getD, take, drop, length-append, take-append-drop}
-use lib.Seq.{take-all, take-suc, split-at, take-at, drop-at}
-use borrow.Author.Tests.{le-leb}
+use Rattle.fips197.proofs.Kit.{_≡_, refl, sym, ap, ap₂, _∙_, true, List, [], _∷_, _++_, append-assoc, append-nil, ℕ, zero, suc, _+_, _-_, _≤_, _<_, add-one, arith, length, getD, take, drop, length-append, take-append-drop, take-all, take-suc, split-at, take-at, drop-at, le-leb}
 use Rattle.cipher.specs.Number.{number, bigEndian}
 use Rattle.cipher.proofs.Numbers.{bigEndian-length, number-bigEndian}
 use Rattle.files.specs.Refusals.{none}

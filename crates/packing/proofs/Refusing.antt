@@ -1,12 +1,5 @@
 -- What an append that passes tells of file and item, and what each test of the code settles.
-use mathlib.Core.Path.{_≡_, refl, sym, ap, _∙_}
-use mathlib.Core.Bool.{Bool, true, false}
-use mathlib.Core.List.{List, [], _∷_}
-use Prim.Native.Nat.{ℕ, _+_, _-_, _≤_, _<_}
-use native.Mathlib.Omega.{arith}
-use lib.Dec.{leb, ltb}
-use lib.ListN.{length, take, length-take}
-use borrow.Author.Tests.{leb-true, leb-false, le-leb, lt-leb, ltb-true}
+use Rattle.fips197.proofs.Kit.{_≡_, refl, sym, ap, _∙_, Bool, true, false, List, [], _∷_, ℕ, _+_, _-_, _≤_, _<_, arith, leb, ltb, length, take, length-take, leb-true, leb-false, le-leb, lt-leb, ltb-true}
 use Rattle.files.specs.declared.Refusal.{Refusal}
 use Rattle.files.specs.Refusals.{refusal, unless, first}
 use Rattle.files.specs.Message.{itemCount, refuse3}

@@ -1,14 +1,6 @@
 -- What the rules of a difference list and a row pattern give, by one argument for every list: 000, section 6.4, properties A and B and
 -- Proposition 2, and that the pattern yields every later row.
-use mathlib.Core.Path.{_≡_, refl, sym, ap, ap₂, _∙_}
-use mathlib.Core.Bool.{Bool, true, false, _&&_, Bool·beq, xor}
-use mathlib.Core.List.{List, [], _∷_, map}
-use Prim.Native.Nat.{ℕ, zero, suc, _+_, _-_, _≤_, _<_, _%_}
-use native.Mathlib.Nat.{add-mod-right, mod-add-mod, mod-lt, mod-eq-of-lt, mod-self}
-use native.Mathlib.Omega.{arith}
-use lib.Dec.{eqb, ltb}
-use lib.ListN.{length, getD}
-use borrow.Author.Tests.{ltb-true, ltb-false, eqb-true, lt-ltb, le-leb}
+use Rattle.fips197.proofs.Kit.{_≡_, refl, sym, ap, ap₂, _∙_, Bool, true, false, _&&_, Bool·beq, xor, List, [], _∷_, map, ℕ, zero, suc, _+_, _-_, _≤_, _<_, _%_, add-mod-right, mod-add-mod, mod-lt, mod-eq-of-lt, mod-self, arith, eqb, ltb, length, getD, ltb-true, ltb-false, eqb-true, lt-ltb, le-leb}
 use Rattle.incidence.specs.Count.{countUpTo, inside}
 use Rattle.incidence.specs.Family.{Earlier, parity}
 use Rattle.incidence.proofs.Booleans.{and-left, and-right, beq-eq}

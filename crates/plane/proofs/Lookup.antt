@@ -1,13 +1,5 @@
 -- The code's tables are the definitions' lists. A table is tested at each of the five places of a column; past the end both are empty.
-use mathlib.Core.Path.{_≡_, refl, sym, ap, _∙_}
-use mathlib.Core.Bool.{Bool, true, false, _&&_}
-use mathlib.Core.List.{List, [], _∷_}
-use Prim.Native.Nat.{ℕ, zero, suc, _+_, _-_, _≤_, _<_}
-use native.Mathlib.Omega.{arith}
-use lib.Dec.{eqb, ltb, leb}
-use lib.ListN.{length, getD, take, drop, List·getD-eq-default}
-use lib.Seq.{getD-take, getD-drop}
-use borrow.Author.Tests.{ltb-true, ltb-false, leb-true, eqb-true}
+use Rattle.fips197.proofs.Kit.{_≡_, refl, sym, ap, _∙_, Bool, true, false, _&&_, List, [], _∷_, ℕ, zero, suc, _+_, _-_, _≤_, _<_, arith, eqb, ltb, leb, length, getD, take, drop, List·getD-eq-default, getD-take, getD-drop, ltb-true, ltb-false, leb-true, eqb-true}
 use Rattle.cipher.specs.Block.{same}
 use Rattle.cipher.proofs.Xor.{same-true}
 use Rattle.incidence.proofs.Booleans.{and-left, and-right}

@@ -1,10 +1,5 @@
 -- The four planes are lawful families, with document 01's numbers: what the crates above use of them.
-use mathlib.Core.Path.{_≡_, refl, ap, _∙_}
-use mathlib.Core.Bool.{Bool, true, false, _&&_}
-use Prim.Native.Nat.{ℕ, suc, _≤_, _<_}
-use native.Mathlib.Omega.{arith}
-use lib.Dec.{leb}
-use borrow.Author.Tests.{leb-true, leb-false, le-leb}
+use Rattle.fips197.proofs.Kit.{_≡_, refl, ap, _∙_, Bool, true, false, _&&_, ℕ, suc, _≤_, _<_, arith, leb, leb-true, leb-false, le-leb}
 use Rattle.cipher.specs.Block.{if_then_else_}
 use Rattle.incidence.specs.Count.{countUpTo}
 use Rattle.incidence.specs.Family.{Disjunct, Lawful}

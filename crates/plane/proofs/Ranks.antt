@@ -1,14 +1,5 @@
 -- Rising lists of numbers: how many members are at most x, and sums over a cycle of m numbers of a test that repeats.
-use mathlib.Core.Path.{_≡_, refl, sym, ap, ap₂, _∙_}
-use mathlib.Core.Bool.{Bool, true, false, _&&_, _||_}
-use mathlib.Core.List.{List, [], _∷_}
-use Prim.Native.Nat.{ℕ, zero, suc, _+_, _-_, _≤_, _<_}
-use native.Mathlib.Nat.{add-suc, zero-add}
-use native.Mathlib.Numerals.{add-one}
-use native.Mathlib.Omega.{arith}
-use lib.Dec.{eqb, ltb, leb}
-use lib.ListN.{length, getD}
-use borrow.Author.Tests.{ltb-true, ltb-false, leb-true, leb-false, le-leb, lt-leb, eqb-true, eqb-false, eq-eqb, ne-eqb}
+use Rattle.fips197.proofs.Kit.{_≡_, refl, sym, ap, ap₂, _∙_, Bool, true, false, _&&_, _||_, List, [], _∷_, ℕ, zero, suc, _+_, _-_, _≤_, _<_, add-suc, zero-add, add-one, arith, eqb, ltb, leb, length, getD, ltb-true, ltb-false, leb-true, leb-false, le-leb, lt-leb, eqb-true, eqb-false, eq-eqb, ne-eqb}
 use Rattle.incidence.specs.Count.{indicator, countUpTo}
 use Rattle.incidence.proofs.Booleans.{and-left, and-right, or-first, or-second}
 use Rattle.incidence.proofs.Counting.{count-ext}

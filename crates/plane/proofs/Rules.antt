@@ -1,11 +1,6 @@
 -- The constants keep the rules: one computed test for each rule, over the four planes at once.
-use mathlib.Core.Path.{_≡_, refl}
-use mathlib.Core.Bool.{Bool, true, xor}
-use Prim.Native.Nat.{ℕ, zero, suc, _-_, _≤_, _<_}
-use native.Mathlib.Omega.{arith}
-use lib.Dec.{eqb, ltb, leb}
-use lib.ListN.{length}
-use borrow.Author.Tests.{ltb-true, leb-true, eqb-true}
+use Rattle.fips197.proofs.Kit.{_≡_, refl, Bool, true, ℕ, zero, suc, _-_, _≤_, _<_, arith, eqb, ltb, leb, length, ltb-true, leb-true, eqb-true}
+use mathlib.Core.Bool.{xor}
 use Rattle.incidence.specs.Family.{parity}
 use Rattle.incidence.proofs.Counting.{every, every-at}
 use Rattle.plane.specs.Table.{itemCounts, planeItems, tagCounts, planeTags, limits, planeLimit, differenceLists, differences, patternLists, planePattern}

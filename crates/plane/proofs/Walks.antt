@@ -1,13 +1,5 @@
 -- Where the rows of an item and the items of a row stand, in rising order, by ranks in the difference list.
-use mathlib.Core.Path.{_≡_, refl, sym, ap, _∙_, subst}
-use mathlib.Core.Bool.{Bool, true, false, _&&_}
-use mathlib.Core.List.{List, [], _++_, map}
-use Prim.Native.Nat.{ℕ, zero, suc, _+_, _-_, _≤_, _<_, _%_}
-use native.Mathlib.Nat.{add-mod-right, mod-eq-of-lt}
-use native.Mathlib.Omega.{arith}
-use lib.Dec.{ltb, leb}
-use lib.ListN.{length, getD, drop, length-map}
-use borrow.Author.Tests.{ltb-true, ltb-false, leb-true, leb-false, lt-ltb, le-ltb, le-leb, lt-leb}
+use Rattle.fips197.proofs.Kit.{_≡_, refl, sym, ap, _∙_, subst, Bool, true, false, _&&_, List, [], _++_, map, ℕ, zero, suc, _+_, _-_, _≤_, _<_, _%_, add-mod-right, mod-eq-of-lt, arith, ltb, leb, length, getD, drop, length-map, ltb-true, ltb-false, leb-true, leb-false, lt-ltb, le-ltb, le-leb, lt-leb}
 use Rattle.cipher.specs.Block.{if_then_else_}
 use Rattle.cipher.proofs.Loop.{map-at}
 use Rattle.incidence.specs.Count.{indicator, countUpTo, listed, inside}

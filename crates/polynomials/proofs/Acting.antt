@@ -1,13 +1,7 @@
 -- A polynomial over two elements acts on a sequence of bits: x moves it on by one place. This is all that is used of products: sums of polynomials act
 -- as sums, and x^k times a polynomial acts k places on.
-use mathlib.Core.Path.{_≡_, refl, sym, ap, ap₂, _∙_}
-use mathlib.Core.Bool.{Bool, true, false, xor, _&&_}
-use mathlib.Core.List.{List, [], _∷_, _++_}
-use Prim.Native.Nat.{ℕ, zero, suc, _+_, _≤_, _<_}
-use native.Mathlib.Omega.{arith}
-use lib.Dec.{eqb}
-use lib.Bits.{bitXor}
-use lib.ListN.{length, getD, take, length-take}
+use Rattle.fips197.proofs.Kit.{_≡_, refl, sym, ap, ap₂, _∙_, Bool, true, false, _&&_, List, [], _∷_, _++_, ℕ, zero, suc, _+_, _≤_, _<_, arith, eqb, bitXor, length, getD, take, length-take}
+use mathlib.Core.Bool.{xor}
 use Rattle.cipher.specs.Block.{_⊕_, zeros}
 use Rattle.incidence.specs.Count.{indicator}
 use Rattle.polynomials.specs.Polynomial.{longer, polySize, raised}

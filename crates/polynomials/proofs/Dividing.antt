@@ -1,12 +1,5 @@
 -- Euclid's algorithm and long division, step by step: what is left to do gives what the whole gives.
-use mathlib.Core.Path.{_≡_, refl, sym, ap, ap₂, _∙_}
-use mathlib.Core.Bool.{Bool, true, false, _||_}
-use mathlib.Core.List.{List}
-use Prim.Native.Nat.{ℕ, zero, suc, _+_, _-_, _≤_, _<_}
-use native.Mathlib.Omega.{arith}
-use lib.Dec.{eqb, ltb}
-use lib.ListN.{length, set, length-replicate}
-use borrow.Author.Tests.{eq-eqb, ne-eqb, lt-ltb, le-ltb}
+use Rattle.fips197.proofs.Kit.{_≡_, refl, sym, ap, ap₂, _∙_, Bool, true, false, _||_, List, ℕ, zero, suc, _+_, _-_, _≤_, _<_, arith, eqb, ltb, length, set, length-replicate, eq-eqb, ne-eqb, lt-ltb, le-ltb}
 use Rattle.cipher.specs.Block.{_⊕_, zeros}
 use Rattle.incidence.proofs.Booleans.{or-first, or-second}
 use Rattle.polynomials.specs.Polynomial.{polySize, raised, less, gcdIn, gcd, quotientIn, quotient}

@@ -1,14 +1,6 @@
 -- Euclid's algorithm, for any two polynomials: what sums and powers keep, its result keeps; it ends with one of the two 0; and the result takes to 0
 -- only sequences that both do.
-use mathlib.Core.Path.{_≡_, refl, sym, ap, ap₂, _∙_, subst}
-use mathlib.Core.Bool.{Bool, true, false, _||_, true≢false}
-use mathlib.Core.Logic.{_⊎_, inl, inr}
-use mathlib.Core.List.{List, [], _∷_}
-use Prim.Native.Nat.{ℕ, zero, suc, _+_, _-_, _≤_, _<_}
-use native.Mathlib.Omega.{arith}
-use lib.Dec.{eqb, ltb}
-use lib.ListN.{length}
-use borrow.Author.Tests.{eqb-true, eqb-false, ltb-true, ltb-false}
+use Rattle.fips197.proofs.Kit.{_≡_, refl, sym, ap, ap₂, _∙_, subst, Bool, true, false, _||_, true≢false, _⊎_, inl, inr, List, [], _∷_, ℕ, zero, suc, _+_, _-_, _≤_, _<_, arith, eqb, ltb, length, eqb-true, eqb-false, ltb-true, ltb-false}
 use Rattle.cipher.specs.Block.{_⊕_, zeros}
 use Rattle.cipher.proofs.Xor.{⊕-comm, ⊕-zeros}
 use Rattle.incidence.proofs.Booleans.{or-cases}

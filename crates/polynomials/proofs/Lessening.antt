@@ -1,13 +1,5 @@
 -- Sizes by coefficients, and that a step of long division makes a polynomial shorter.
-use mathlib.Core.Path.{_≡_, refl, sym, ap, ap₂, _∙_}
-use mathlib.Core.Bool.{Bool, true, false}
-use mathlib.Core.List.{List, [], _∷_, _++_}
-use Prim.Native.Nat.{ℕ, zero, suc, _-_, _≤_, _<_}
-use native.Mathlib.Omega.{arith}
-use lib.Dec.{eqb, ltb}
-use lib.Bits.{bitXor, xor-lt}
-use lib.ListN.{length, getD, take, List·getD-eq-default}
-use borrow.Author.Tests.{eqb-true, eq-eqb, ltb-true, ltb-false}
+use Rattle.fips197.proofs.Kit.{_≡_, refl, sym, ap, ap₂, _∙_, Bool, true, false, List, [], _∷_, _++_, ℕ, zero, suc, _-_, _≤_, _<_, arith, eqb, ltb, bitXor, xor-lt, length, getD, take, List·getD-eq-default, eqb-true, eq-eqb, ltb-true, ltb-false}
 use Rattle.cipher.specs.Block.{_⊕_, zeros}
 use Rattle.cipher.proofs.Xor.{⊕-at}
 use Rattle.incidence.specs.Count.{indicator}

@@ -1,9 +1,7 @@
 -- Sums of bits, and the laws of `parity`: of no members, of a sum, of two lists one behind the other, and of a parity of parities, which may be
 -- taken in either order.
-use mathlib.Core.Path.{_≡_, refl, sym, ap, ap₂, _∙_}
-use mathlib.Core.Bool.{Bool, true, false, xor, _&&_}
-use mathlib.Core.List.{List, [], _∷_, _++_, map}
-use Prim.Native.Nat.{ℕ}
+use Rattle.fips197.proofs.Kit.{_≡_, refl, sym, ap, ap₂, _∙_, Bool, true, false, _&&_, List, [], _∷_, _++_, map, ℕ}
+use mathlib.Core.Bool.{xor}
 use Rattle.incidence.specs.Family.{parity}
 
 -- ---- bits

@@ -1,11 +1,5 @@
 -- The laws of `raised`, and of a loop that adds a raised polynomial from its lowest term on.
-use mathlib.Core.Path.{_≡_, refl, sym, ap, ap₂, _∙_}
-use mathlib.Core.List.{List, [], _∷_, _++_}
-use Prim.Native.Nat.{ℕ, zero, suc, _+_, _-_, _≤_, _<_}
-use native.Mathlib.Omega.{arith}
-use lib.Bits.{bitXor}
-use lib.ListN.{length, getD, set, take, drop, length-append, length-take, length-replicate, take-append-drop}
-use lib.Seq.{take-length, take-take, take-at, getD-take, getD-append-add}
+use Rattle.fips197.proofs.Kit.{_≡_, refl, sym, ap, ap₂, _∙_, List, [], _∷_, _++_, ℕ, zero, suc, _+_, _-_, _≤_, _<_, arith, bitXor, length, getD, set, take, drop, length-append, length-take, length-replicate, take-append-drop, take-length, take-take, take-at, getD-take, getD-append-add}
 use Rattle.cipher.specs.Block.{_⊕_, zeros}
 use Rattle.cipher.proofs.Xor.{⊕-at, ⊕-length, ⊕-zeros}
 use Rattle.cipher.proofs.Loop.{part, part-turn, part-read, part-done}

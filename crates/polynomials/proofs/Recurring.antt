@@ -1,13 +1,6 @@
 -- A sequence that a polynomial of degree n takes to 0 and no shorter one does: n − 1 times 0, then 1, and from there on as the polynomial says. So a
 -- polynomial shorter than g that takes to 0 all that g does is 0.
-use mathlib.Core.Path.{_≡_, refl, sym, ap, ap₂, _∙_}
-use mathlib.Core.Bool.{Bool, true, false, _&&_, xor, and-false, true≢false}
-use mathlib.Core.List.{List, [], _∷_}
-use Prim.Native.Nat.{ℕ, zero, suc, _+_, _-_, _≤_, _<_}
-use native.Mathlib.Omega.{arith}
-use lib.Dec.{eqb}
-use lib.ListN.{length, take}
-use borrow.Author.Tests.{eq-eqb, ne-eqb}
+use Rattle.fips197.proofs.Kit.{_≡_, refl, sym, ap, ap₂, _∙_, Bool, true, false, _&&_, xor, and-false, true≢false, List, [], _∷_, ℕ, zero, suc, _+_, _-_, _≤_, _<_, arith, eqb, length, take, eq-eqb, ne-eqb}
 use Rattle.incidence.proofs.Counting.{bit-most}
 use Rattle.polynomials.specs.Polynomial.{longer, polySize}
 use Rattle.polynomials.proofs.Parity.{xor-none, xor-self, xor-three, xor-turn}

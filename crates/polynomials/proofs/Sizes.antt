@@ -1,13 +1,5 @@
 -- The laws of `polySize`: it is at most the length, and a walk from the front has it of the coefficients passed.
-use mathlib.Core.Path.{_≡_, refl, sym, ap, _∙_}
-use mathlib.Core.List.{List, [], _∷_}
-use Prim.Native.Nat.{ℕ, zero, suc, _+_, _-_, _≤_, _<_}
-use native.Mathlib.Omega.{arith}
-use native.Mathlib.Numerals.{add-one}
-use lib.Dec.{eqb}
-use lib.ListN.{length, getD, take}
-use lib.Seq.{take-all}
-use borrow.Author.Tests.{eq-eqb, ne-eqb}
+use Rattle.fips197.proofs.Kit.{_≡_, refl, sym, ap, _∙_, List, [], _∷_, ℕ, zero, suc, _+_, _-_, _≤_, _<_, arith, add-one, eqb, length, getD, take, take-all, eq-eqb, ne-eqb}
 use Rattle.incidence.specs.Count.{indicator}
 use Rattle.incidence.proofs.Counting.{bit-most}
 use Rattle.polynomials.specs.Polynomial.{longer, polySize}

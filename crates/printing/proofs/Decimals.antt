@@ -1,17 +1,6 @@
 -- Numbers in decimal: their digits do not depend on how many are allowed, the last one stands behind those of n / 10, and how many there
 -- are.
-use mathlib.Core.Path.{_≡_, refl, sym, _∙_, ap, subst}
-use mathlib.Core.Bool.{Bool, true, false}
-use mathlib.Core.List.{List, [], _∷_, _++_, append-assoc}
-use Prim.Native.Nat.{ℕ, zero, suc, _+_, _-_, _*_, _/_, _%_, _^_, _≤_, _<_}
-use native.Mathlib.Omega.{arith}
-use native.Mathlib.Numerals.{add-one}
-use native.Mathlib.Nat.{pow-succ'}
-use lib.Dec.{eqb, ltb}
-use lib.ListN.{length, take, drop, set, length-append, length-take}
-use lib.ListN.{length-drop, drop-of-length-le}
-use lib.Seq.{set-split, drop-at, take-all}
-use borrow.Author.Tests.{ltb-true, ltb-false, eqb-false, eq-eqb, ne-eqb}
+use Rattle.fips197.proofs.Kit.{_≡_, refl, sym, _∙_, ap, subst, Bool, true, false, List, [], _∷_, _++_, append-assoc, ℕ, zero, suc, _+_, _-_, _*_, _/_, _%_, _^_, _≤_, _<_, arith, add-one, pow-succ', eqb, ltb, length, take, drop, set, length-append, length-take, length-drop, drop-of-length-le, set-split, drop-at, take-all, ltb-true, ltb-false, eqb-false, eq-eqb, ne-eqb}
 use Rattle.cipher.specs.Block.{if_then_else_}
 use Rattle.printing.specs.Text.{digits, decimal}
 

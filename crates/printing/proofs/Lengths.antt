@@ -1,12 +1,5 @@
 -- How long the lines can be: no number of 64 bits has more than 20 digits.
-use mathlib.Core.Path.{_≡_, refl}
-use mathlib.Core.Bool.{Bool, true, false}
-use mathlib.Core.List.{List, [], _++_}
-use Prim.Native.Nat.{ℕ, zero, suc, _+_, _*_, _^_, _≤_, _<_}
-use Prim.Native.String.{String}
-use native.Mathlib.Omega.{arith}
-use lib.Dec.{eqb}
-use lib.ListN.{length, getD, length-append}
+use Rattle.fips197.proofs.Kit.{_≡_, refl, Bool, true, false, List, [], _++_, ℕ, zero, suc, _+_, _*_, _^_, _≤_, _<_, String, arith, eqb, length, getD, length-append}
 use Rattle.cipher.specs.Block.{if_then_else_}
 use Rattle.incidence.specs.declared.Answer.{Answer}
 use Rattle.incidence.specs.declared.Answer.the-variants.{Intact, Named, Beyond}

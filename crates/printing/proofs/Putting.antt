@@ -1,11 +1,5 @@
 -- A text put over a list, and two put one behind the other.
-use mathlib.Core.Path.{_≡_, sym, _∙_, ap, ap₂, subst}
-use mathlib.Core.List.{List, [], _++_, append-assoc}
-use Prim.Native.Nat.{ℕ, _+_, _≤_}
-use native.Mathlib.Nat.{add-zero, zero-add}
-use native.Mathlib.Omega.{arith}
-use lib.ListN.{length, take, drop, length-append, length-take, length-drop, take-append-drop}
-use lib.Seq.{length-take-le, take-at, drop-append-add, drop-drop}
+use Rattle.fips197.proofs.Kit.{_≡_, sym, _∙_, ap, ap₂, subst, List, [], _++_, append-assoc, ℕ, _+_, _≤_, add-zero, zero-add, arith, length, take, drop, length-append, length-take, length-drop, take-append-drop, length-take-le, take-at, drop-append-add, drop-drop}
 use Rattle.printing.specs.Text.{over}
 
 -- a text is put at a place of s: s′ is what is there then, and r the place behind the text

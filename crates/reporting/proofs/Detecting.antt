@@ -1,12 +1,6 @@
 -- Demand 3 of what is printed: where the first message is tagged and the second is a message of as many items, the lines are those of a report
 -- that is not refused (scheme, Guarantees), of which the demand holds (scheme, Claiming).
-use mathlib.Core.Path.{_≡_, refl, sym, ap, _∙_}
-use mathlib.Core.Bool.{Bool, true}
-use mathlib.Core.List.{List}
-use Prim.Native.Nat.{ℕ, _≤_}
-use native.Mathlib.Omega.{arith}
-use lib.ListN.{drop}
-use borrow.Author.Tests.{le-leb}
+use Rattle.fips197.proofs.Kit.{_≡_, refl, sym, ap, _∙_, Bool, true, List, ℕ, _≤_, arith, drop, le-leb}
 use Rattle.cipher.specs.Block.{if_then_else_, Bytes, zeros}
 use Rattle.cipher.proofs.Xor.{take-bytes, drop-bytes}
 use Rattle.incidence.proofs.Booleans.{and-both}

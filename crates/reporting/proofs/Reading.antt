@@ -1,11 +1,5 @@
 -- What the tests of an input settle, and what a readable input holds.
-use mathlib.Core.Path.{_≡_, sym, ap, _∙_}
-use mathlib.Core.Bool.{Bool, true, false, _&&_}
-use mathlib.Core.List.{List}
-use Prim.Native.Nat.{ℕ, _+_, _≤_, _<_}
-use lib.Dec.{leb}
-use lib.ListN.{length}
-use borrow.Author.Tests.{leb-true, le-leb, lt-leb}
+use Rattle.fips197.proofs.Kit.{_≡_, sym, ap, _∙_, Bool, true, false, _&&_, List, ℕ, _+_, _≤_, _<_, leb, length, leb-true, le-leb, lt-leb}
 use Rattle.incidence.proofs.Booleans.{and-left, and-right, and-false-l, and-false-r}
 use Rattle.reporting.specs.Printed.{firstSize, readable}
 

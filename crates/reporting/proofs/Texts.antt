@@ -1,15 +1,8 @@
 -- What each function puts is the text that its contract names: refused, or done.
-use mathlib.Core.Path.{_≡_, sym, ap, ap₂, _∙_}
-use mathlib.Core.Bool.{Bool, true, false}
-use mathlib.Core.List.{List, _++_}
-use Prim.Native.Nat.{ℕ, _+_, _-_, _*_}
-use native.Mathlib.Omega.{arith}
-use lib.ListN.{length, getD, take, drop, length-drop}
-use lib.Seq.{take-at, take-all}
+use Rattle.fips197.proofs.Kit.{_≡_, sym, ap, ap₂, _∙_, Bool, true, false, List, _++_, ℕ, _+_, _-_, arith, length, getD, take, drop, length-drop, take-at, take-all}
 use Rattle.cipher.specs.Block.{if_then_else_, zeros}
 use Rattle.cipher.proofs.Slots.{slot-length}
 use Rattle.incidence.specs.declared.Answer.{Answer}
-use Rattle.sizes.specs.Sizes.{familyOf}
 use Rattle.files.specs.declared.Refusal.{Refusal}
 use Rattle.files.specs.Message.{number16, itemCount, item}
 use Rattle.files.specs.TagFile.{headFor, fileSize}

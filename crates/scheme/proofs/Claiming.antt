@@ -1,15 +1,6 @@
 -- Demand 3 of Report: against an unaltered tag file, a row agrees where the XORs of its old and new hashes are equal; the rest is the
 -- detection theorem of crate incidence.
-use mathlib.Core.Path.{_≡_, refl, sym, ap, ap₂, _∙_, subst}
-use mathlib.Core.Bool.{Bool, true, false, not}
-use mathlib.Core.List.{List, [], _∷_, _++_}
-use mathlib.Core.Logic.{_⊎_, inl, inr}
-use Prim.Native.Nat.{ℕ, zero, suc, _-_, _≤_, _<_}
-use native.Mathlib.Omega.{arith}
-use native.Mathlib.Nat.{le-of-suc-le-suc, eq-or-lt-of-le}
-use lib.Dec.{eqb}
-use lib.ListN.{length, getD, length-append, List·getD-append}
-use lib.Seq.{getD-at}
+use Rattle.fips197.proofs.Kit.{_≡_, refl, sym, ap, ap₂, _∙_, subst, Bool, true, false, not, List, [], _∷_, _++_, _⊎_, inl, inr, ℕ, zero, suc, _-_, _≤_, _<_, arith, le-of-suc-le-suc, eq-or-lt-of-le, eqb, length, getD, length-append, List·getD-append, getD-at}
 use Rattle.cipher.specs.Block.{Bytes, same}
 use Rattle.cipher.proofs.Xor.{same-true, same-eq}
 use Rattle.incidence.specs.Count.{countUpTo}

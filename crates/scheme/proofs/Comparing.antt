@@ -1,10 +1,5 @@
 -- The rows that the code compares agree as Report's definition says, and so does all that is decoded from them.
-use mathlib.Core.Path.{_≡_, refl, ap, ap₂, _∙_}
-use mathlib.Core.Bool.{Bool}
-use mathlib.Core.List.{List, [], _∷_, _++_}
-use Prim.Native.Nat.{ℕ, zero, suc, _≤_}
-use native.Mathlib.Omega.{arith}
-use lib.ListN.{drop}
+use Rattle.fips197.proofs.Kit.{_≡_, refl, ap, ap₂, _∙_, Bool, List, [], _∷_, _++_, ℕ, zero, suc, _≤_, arith, drop}
 use Rattle.cipher.specs.Block.{same}
 use Rattle.incidence.specs.Count.{indicator}
 use Rattle.incidence.specs.Sum.{rowSum, expanded}

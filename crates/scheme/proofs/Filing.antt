@@ -1,11 +1,5 @@
 -- From sums to files and back: what the calls write, and the sums that a file gives.
-use mathlib.Core.Path.{_≡_, refl, sym, ap, ap₂, _∙_}
-use mathlib.Core.Bool.{Bool, true, false}
-use mathlib.Core.List.{List, _++_}
-use Prim.Native.Nat.{ℕ, suc, _+_, _-_, _*_, _≤_, _<_}
-use native.Mathlib.Omega.{arith}
-use lib.ListN.{length, take, drop, length-append, length-take, length-drop, take-append-drop}
-use lib.Seq.{take-at, drop-at}
+use Rattle.fips197.proofs.Kit.{_≡_, refl, sym, ap, ap₂, _∙_, Bool, true, false, List, _++_, ℕ, suc, _+_, _-_, _*_, _≤_, _<_, arith, length, take, drop, length-append, length-take, length-drop, take-append-drop, take-at, drop-at}
 use Rattle.cipher.specs.Block.{if_then_else_, _⊕_, slot, listOf, same}
 use Rattle.cipher.specs.Aes.{encipher, decipher}
 use Rattle.cipher.proofs.Xor.{same-true, same-eq}

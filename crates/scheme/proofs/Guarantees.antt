@@ -1,14 +1,7 @@
 -- What follows from the definitions of the calls, for a reader who wants to know what they are good for: Tag's file is accepted and
 -- verified, a report against an unaltered file is not refused, Replace is tagging afresh, and demand 3 is met by no report that names
 -- every item, none, or says "beyond" of an unchanged message.
-use mathlib.Core.Path.{_≡_, refl, sym, ap, ap₂, _∙_}
-use mathlib.Core.Bool.{Bool, true, false}
-use mathlib.Core.List.{List, [], _∷_, _++_}
-use mathlib.Core.Logic.{_↔_}
-use Prim.Native.Nat.{ℕ, _≤_, _<_}
-use native.Mathlib.Omega.{arith}
-use lib.ListN.{length, drop}
-use borrow.Author.Tests.{eq-eqb, ne-eqb, le-leb}
+use Rattle.fips197.proofs.Kit.{_≡_, refl, sym, ap, ap₂, _∙_, Bool, true, false, List, [], _∷_, _++_, _↔_, ℕ, _≤_, _<_, arith, length, drop, eq-eqb, ne-eqb, le-leb}
 use Rattle.cipher.specs.Block.{if_then_else_, Bytes, _⊕_, same}
 use Rattle.cipher.proofs.Xor.{same-true, same-eq, take-bytes, drop-bytes, ⊕-assoc}
 use Rattle.incidence.specs.Count.{countUpTo}

@@ -1,12 +1,5 @@
 -- An unaltered tag file: what it says, that it is accepted, and that its tags give back the row sums of the items it was made of.
-use mathlib.Core.Path.{_≡_, refl, sym, ap, _∙_}
-use mathlib.Core.Bool.{Bool, true, false}
-use mathlib.Core.List.{List, [], append-nil}
-use Prim.Native.Nat.{ℕ, zero, suc, _-_, _*_, _≤_, _<_}
-use native.Mathlib.Omega.{arith}
-use lib.Dec.{leb}
-use lib.ListN.{length, drop}
-use borrow.Author.Tests.{leb-true}
+use Rattle.fips197.proofs.Kit.{_≡_, refl, sym, ap, _∙_, Bool, true, false, List, [], append-nil, ℕ, zero, suc, _-_, _*_, _≤_, _<_, arith, leb, length, drop, leb-true}
 use Rattle.cipher.specs.Block.{if_then_else_, Bytes, Block, _⊕_, slot, listOf}
 use Rattle.cipher.proofs.Xor.{⊕-block, zeros-block, append-bytes, take-bytes, drop-bytes}
 use Rattle.cipher.proofs.Slots.{slot-length, listOf-length, slot-listOf}

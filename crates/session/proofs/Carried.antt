@@ -1,11 +1,5 @@
 -- The sums that a session carries: a value added to those of one item's tags.
-use mathlib.Core.Path.{_≡_, ap, _∙_}
-use mathlib.Core.Bool.{Bool, true, false}
-use mathlib.Core.List.{List, _++_}
-use Prim.Native.Nat.{ℕ, suc, _-_, _*_, _≤_, _<_}
-use native.Mathlib.Omega.{arith}
-use lib.ListN.{length, drop, length-append, length-drop}
-use lib.Seq.{drop-at}
+use Rattle.fips197.proofs.Kit.{_≡_, ap, _∙_, Bool, true, false, List, _++_, ℕ, suc, _-_, _*_, _≤_, _<_, arith, length, drop, length-append, length-drop, drop-at}
 use Rattle.cipher.specs.Block.{if_then_else_, _⊕_, slot, listOf}
 use Rattle.cipher.proofs.Xor.{⊕-length}
 use Rattle.cipher.proofs.Slots.{slot-length, slot-listOf, listOf-length, listOf-ext}

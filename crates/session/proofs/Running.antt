@@ -1,17 +1,7 @@
 -- A run of a session: Begin, a Put for each item, Close. What the session carries after each step (`taken-all`); that a run gets to its
 -- end (`accepts`, `runs`); that Close then writes the file that Tag's rule gives for the items put (`closes`); and what a run cannot do:
 -- put one item more (`full`), close before the last (`early`), or go on after Close (`shut`).
-use mathlib.Core.Path.{_≡_, refl, sym, ap, _∙_, subst}
-use mathlib.Core.Bool.{true}
-use mathlib.Core.List.{List, _++_}
-use mathlib.Core.Logic.{_⊎_, inl, inr}
-use Prim.Native.Nat.{ℕ, zero, suc, _+_, _≤_, _<_}
-use native.Mathlib.Nat.{le-of-suc-le-suc, eq-or-lt-of-le}
-use native.Mathlib.Numerals.{add-one}
-use native.Mathlib.Omega.{arith}
-use lib.Dec.{leb}
-use lib.ListN.{length, drop}
-use borrow.Author.Tests.{eq-eqb, ne-eqb, le-leb, lt-ltb, le-ltb}
+use Rattle.fips197.proofs.Kit.{_≡_, refl, sym, ap, _∙_, subst, true, List, _++_, _⊎_, inl, inr, ℕ, zero, suc, _+_, _≤_, _<_, le-of-suc-le-suc, eq-or-lt-of-le, add-one, arith, leb, length, drop, eq-eqb, ne-eqb, le-leb, lt-ltb, le-ltb}
 use Rattle.cipher.specs.Block.{zeros, slot}
 use Rattle.cipher.proofs.Slots.{slot-length}
 use Rattle.cipher.proofs.Laws.{cmac-length}

@@ -1,12 +1,5 @@
 -- One step: what its refusals tell of a session that passes them, and what it gives.
-use mathlib.Core.Path.{_≡_}
-use mathlib.Core.Bool.{true, _&&_}
-use mathlib.Core.List.{List, [], _∷_}
-use Prim.Native.Nat.{ℕ, _+_, _≤_, _<_}
-use native.Mathlib.Omega.{arith}
-use lib.Dec.{eqb, leb, ltb}
-use lib.ListN.{length}
-use borrow.Author.Tests.{eqb-true, leb-true, ltb-true}
+use Rattle.fips197.proofs.Kit.{_≡_, true, _&&_, List, [], _∷_, ℕ, _+_, _≤_, _<_, arith, eqb, leb, ltb, length, eqb-true, leb-true, ltb-true}
 use Rattle.cipher.specs.Block.{zeros}
 use Rattle.incidence.specs.Count.{inside}
 use Rattle.incidence.proofs.Counting.{inside-low, inside-high}

@@ -1,5 +1,5 @@
 -- The starred cases about planes, by computation.
-use mathlib.Core.Path.{refl}
+use Rattle.fips197.proofs.Kit.{refl}
 use mathlib.Core.Bool.{xor}
 use Rattle.incidence.specs.Family.{rowsOf, itemsOf, parity}
 use Rattle.incidence.specs.Report.{cleared, named, numberNamed, disagreeing, holdsNamed, someUnexplained, answerBy, answer}

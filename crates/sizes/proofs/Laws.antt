@@ -1,13 +1,6 @@
 -- What a crate above may use of the size codes: every known code's family is lawful, the numbers are small, and a code that is none has
 -- nothing. It needs nothing of planes.
-use mathlib.Core.Path.{_≡_, refl, ap, _∙_}
-use mathlib.Core.Bool.{Bool, true, false}
-use mathlib.Core.List.{List, _++_}
-use Prim.Native.Nat.{ℕ, zero, suc, _≤_, _<_}
-use native.Mathlib.Omega.{arith}
-use lib.Dec.{leb}
-use lib.ListN.{length, getD, drop, List·getD-append}
-use borrow.Author.Tests.{leb-true, leb-false}
+use Rattle.fips197.proofs.Kit.{_≡_, refl, ap, _∙_, Bool, true, false, List, _++_, ℕ, zero, suc, _≤_, _<_, arith, leb, length, getD, drop, List·getD-append, leb-true, leb-false}
 use Rattle.incidence.specs.Count.{inside}
 use Rattle.incidence.specs.Family.{Family, Lawful, rowsOf, itemsOf}
 use Rattle.incidence.proofs.Booleans.{not-both}

@@ -1,13 +1,5 @@
 -- A walk over the numbers that pass adds the value once to each sum: after k of them, to those that have fewer than k before them.
-use mathlib.Core.Path.{_≡_, refl, sym, ap, ap₂, _∙_, subst}
-use mathlib.Core.Bool.{Bool, true, false, _&&_}
-use mathlib.Core.List.{List, _++_}
-use Prim.Native.Nat.{ℕ, zero, suc, _+_, _-_, _*_, _≤_, _<_}
-use native.Mathlib.Omega.{arith}
-use lib.Dec.{ltb, eqb}
-use lib.ListN.{length, getD, take, drop}
-use lib.Seq.{drop-length, drop-cons}
-use borrow.Author.Tests.{lt-ltb, le-ltb, ltb-true, ltb-false, eqb-true, eqb-false, eq-eqb, ne-eqb}
+use Rattle.fips197.proofs.Kit.{_≡_, refl, sym, ap, ap₂, _∙_, subst, Bool, true, false, _&&_, List, _++_, ℕ, zero, suc, _+_, _-_, _*_, _≤_, _<_, arith, ltb, eqb, length, getD, take, drop, drop-length, drop-cons, lt-ltb, le-ltb, ltb-true, ltb-false, eqb-true, eqb-false, eq-eqb, ne-eqb}
 use Rattle.cipher.specs.Block.{if_then_else_, _⊕_, slot, zeros}
 use Rattle.cipher.proofs.Xor.{⊕-length}
 use Rattle.cipher.proofs.Slots.{written, written-length, slot-here, slot-before, slot-after, drop-after, slot-length}

@@ -1,13 +1,6 @@
 -- What the tables hold for the four bytes of a column adds up to the mixed column, and so for a state. InvMixColumns is additive, so that
 -- it may be taken of the round keys beforehand.
-use mathlib.Core.Path.{_≡_, refl, sym, ap, ap₂, _∙_}
-use mathlib.Core.List.{List, [], _∷_, _++_, map}
-use Prim.Native.Nat.{ℕ, _+_, _*_, _/_, _%_, _<_}
-use native.Mathlib.Nat.{zero-mul, one-mul}
-use native.Mathlib.Omega.{arith}
-use lib.Dec.{lit<}
-use lib.ListN.{length, getD}
-use lib.Bits.{bitXor, xor-comm, xor-zero-r}
+use Rattle.fips197.proofs.Kit.{_≡_, refl, sym, ap, ap₂, _∙_, List, [], _∷_, _++_, map, ℕ, _+_, _*_, _/_, _%_, _<_, zero-mul, one-mul, arith, lit<, length, getD, bitXor, xor-comm, xor-zero-r}
 use Rattle.fips197.specs.Block.{_⊕_}
 use Rattle.fips197.specs.Field.{productBy, _•_}
 use Rattle.fips197.specs.Aes.{rotWord, mixed, invMixed, shiftRows, invShiftRows, columnwise, invMixColumns}

@@ -1,13 +1,5 @@
 -- The words of the deciphering schedule: the loop that makes them, and the round keys that they are.
-use mathlib.Core.Path.{_≡_, refl, sym, ap, _∙_}
-use mathlib.Core.List.{List, _++_}
-use mathlib.Core.Logic.{⊎-elim}
-use Prim.Native.Nat.{ℕ, _+_, _*_, _<_, _≤_}
-use native.Mathlib.Nat.{eq-or-lt-of-le}
-use native.Mathlib.Omega.{arith}
-use lib.ListN.{length, getD, set}
-use lib.Seq.{getD-set-same, getD-set-other}
-use borrow.Author.Tests.{le-leb, lt-leb}
+use Rattle.fips197.proofs.Kit.{_≡_, refl, sym, ap, _∙_, List, _++_, ⊎-elim, ℕ, _+_, _*_, _<_, _≤_, eq-or-lt-of-le, arith, length, getD, set, getD-set-same, getD-set-other, le-leb, lt-leb}
 use Rattle.fips197.specs.Block.{_⊕_}
 use Rattle.fips197.specs.Aes.{word, roundKey, invMixed, columnwise, invMixColumns, invSubBytes, invShiftRows}
 use Rattle.fips197.specs.Words.{bytesOf, column}

@@ -1,11 +1,5 @@
 -- The rule of a table of rounds, proved at all of its 512 words by one computed test; one law serves both tables.
-use mathlib.Core.Path.{_≡_, ap, ap₂, _∙_}
-use mathlib.Core.Bool.{Bool}
-use mathlib.Core.List.{List}
-use Prim.Native.Nat.{ℕ, _+_, _-_, _*_, _/_, _%_, _<_}
-use native.Mathlib.Omega.{arith}
-use lib.Dec.{T, eqb, eqb→eq}
-use lib.ListN.{length, getD}
+use Rattle.fips197.proofs.Kit.{_≡_, ap, ap₂, _∙_, Bool, List, ℕ, _+_, _-_, _*_, _/_, _%_, _<_, arith, T, eqb, eqb→eq, length, getD}
 use Rattle.fips197.specs.Block.{Bytes, Tabulates}
 use Rattle.fips197.specs.Words.{bytesOf}
 use Rattle.fips197.proofs.Table.{at, every}

@@ -1,13 +1,5 @@
 -- A walk over items adds each value to the sums of its rows: after k items, the sums are those of the first k.
-use mathlib.Core.Path.{_≡_, refl, sym, ap, ap₂, _∙_, subst}
-use mathlib.Core.Bool.{Bool}
-use mathlib.Core.List.{List, _∷_, _++_}
-use Prim.Native.Nat.{ℕ, zero, suc, _+_, _-_, _*_, _≤_, _<_}
-use native.Mathlib.Omega.{arith}
-use native.Mathlib.Numerals.{add-one}
-use lib.ListN.{length, take, drop}
-use lib.Seq.{take-add}
-use lib.ListN.{take-append-drop}
+use Rattle.fips197.proofs.Kit.{_≡_, refl, sym, ap, ap₂, _∙_, subst, Bool, List, _∷_, _++_, ℕ, zero, suc, _+_, _-_, _*_, _≤_, _<_, arith, add-one, length, take, drop, take-add, take-append-drop}
 use Rattle.cipher.specs.Block.{if_then_else_, _⊕_, zeros, slot, listOf}
 use Rattle.cipher.specs.Cmac.{ready}
 use Rattle.cipher.specs.declared.cmac.MacKey.{MacKey}

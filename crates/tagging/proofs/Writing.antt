@@ -1,10 +1,5 @@
 -- Header, tags and MAC written one behind the other are the tag file.
-use mathlib.Core.Path.{_≡_, refl, sym, ap, ap₂, _∙_}
-use mathlib.Core.List.{List, _++_, append-assoc}
-use Prim.Native.Nat.{ℕ, suc, _+_, _-_, _*_, _≤_}
-use native.Mathlib.Omega.{arith}
-use lib.ListN.{length, take, drop, length-append, length-take, length-drop}
-use lib.Seq.{take-at, drop-at, drop-drop}
+use Rattle.fips197.proofs.Kit.{_≡_, refl, sym, ap, ap₂, _∙_, List, _++_, append-assoc, ℕ, suc, _+_, _-_, _*_, _≤_, arith, length, take, drop, length-append, length-take, length-drop, take-at, drop-at, drop-drop}
 use Rattle.cipher.specs.Block.{slot, listOf}
 use Rattle.cipher.specs.Number.{bigEndian}
 use Rattle.cipher.specs.Aes.{encipher}

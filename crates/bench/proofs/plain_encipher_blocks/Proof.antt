@@ -1,8 +1,5 @@
 -- Every block lies inside the input, and out is as long as it was.
-use Prim.Native.Nat.{_-_, _*_, _≤_}
-use mathlib.Core.Path.{_≡_}
-use lib.ListN.{length}
-use borrow.Author.Needs.{needs}
+use Rattle.fips197.proofs.Kit.{_-_, _*_, _≤_, _≡_, length, needs}
 use Rattle.bench.proofs.plain_encipher_blocks.Statement.{statement}
 use Rattle.bench.proofs.plain_encipher_blocks.Tie as tie
 
@@ -15,4 +12,6 @@ abbrev μ-loop : tie.MeasureT-loop
 pub plain-encipher-blocks-spec : {M : Type 1} → statement M
 plain-encipher-blocks-spec =
     tie.close
-    (tie.spec Inv-loop μ-loop (λ c κs. search needs) (λ c. search needs) (λ c. search needs) (λ c κs. search needs) (λ c. search needs) (λ c κs. search needs) (λ c κs. search needs) (λ c. search needs) (λ c. search needs) (λ c. search needs) (λ c. search needs) (λ c. search needs))
+    (tie.spec Inv-loop μ-loop (λ c κs. search needs) (λ c. search needs) (λ c. search needs) (λ c κs. search needs)
+    (λ c. search needs) (λ c κs. search needs) (λ c κs. search needs) (λ c. search needs) (λ c. search needs) (λ c. search needs)
+    (λ c. search needs) (λ c. search needs))

@@ -1,15 +1,11 @@
 -- Both counts stand in files that are not refused.
-use mathlib.Core.Path.{ap₂, ap, _∙_}
-use Prim.Native.Nat.{ℕ}
-use native.Mathlib.Omega.{arith}
-use lib.Dec.{eqb}
+use Rattle.fips197.proofs.Kit.{ap₂, ap, _∙_, ℕ, arith, eqb, needs}
 use Rattle.files.specs.Refusals.{unless}
 use Rattle.files.specs.declared.tagfile.Head.{Head}
 use Rattle.files.specs.TagFile.{headOf}
 use Rattle.files.proofs.Messages.{headed}
 use Rattle.files.proofs.Accepted.{formed}
 use Rattle.checks.specs.Refused.{refuse21}
-use borrow.Author.Needs.{needs}
 use Rattle.checks.proofs.check_counts.Statement.{statement}
 use Rattle.checks.proofs.check_counts.Tie as tie
 

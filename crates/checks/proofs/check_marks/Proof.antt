@@ -1,7 +1,6 @@
 -- The count stands in a file that 3 does not refuse.
-use native.Mathlib.Omega.{arith}
+use Rattle.fips197.proofs.Kit.{arith, needs}
 use Rattle.files.proofs.Messages.{headed}
-use borrow.Author.Needs.{needs}
 use Rattle.checks.proofs.check_marks.Statement.{statement}
 use Rattle.checks.proofs.check_marks.Tie as tie
 

@@ -1,5 +1,5 @@
 -- The length of the size code's file.
-use borrow.Author.Needs.{needs}
+use Rattle.fips197.proofs.Kit.{needs}
 use Rattle.checks.proofs.check_room.Statement.{statement}
 use Rattle.checks.proofs.check_room.Tie as tie
 

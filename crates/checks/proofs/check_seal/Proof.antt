@@ -1,13 +1,8 @@
 -- The seal key is the third of a bundle.
-use mathlib.Core.Path.{ap, _∙_}
-use mathlib.Core.List.{List}
-use Prim.Native.Nat.{ℕ}
-use native.Mathlib.Omega.{arith}
+use Rattle.fips197.proofs.Kit.{arith, needs}
 use Rattle.cipher.specs.Block.{slot}
-use Rattle.files.specs.TagFile.{refuse20}
 use Rattle.tagging.specs.Tagging.{keysIn}
 use Rattle.checks.proofs.Checking.{keys-long}
-use borrow.Author.Needs.{needs}
 use Rattle.checks.proofs.check_seal.Statement.{statement}
 use Rattle.checks.proofs.check_seal.Tie as tie
 

@@ -1,7 +1,7 @@
 -- The first of 1, 6, 20, 8, 9 and 7 that applies (Passing).
+use Rattle.fips197.proofs.Kit.{needs}
 use Rattle.files.proofs.Passing.{stop, run2, listed, passes1, passes2}
 use Rattle.checks.specs.Refused.{replaceRefusal}
-use borrow.Author.Needs.{needs}
 use Rattle.checks.proofs.replace_refusal.Statement.{statement}
 use Rattle.checks.proofs.replace_refusal.Tie as tie
 

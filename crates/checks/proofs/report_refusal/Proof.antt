@@ -1,10 +1,7 @@
 -- Verify's, then 7 (Passing).
-use mathlib.Core.Path.{refl}
-use Rattle.files.specs.Message.{refuse3}
-use Rattle.files.specs.Refusals.{passes}
+use Rattle.fips197.proofs.Kit.{needs}
 use Rattle.files.proofs.Passing.{stop, listed, number-of, rest-passes}
 use Rattle.checks.specs.Refused.{verifyRefusal, reportRefusal}
-use borrow.Author.Needs.{needs}
 use Rattle.checks.proofs.report_refusal.Statement.{statement}
 use Rattle.checks.proofs.report_refusal.Tie as tie
 

@@ -1,7 +1,7 @@
 -- The first of 1, 2, 3, 4, 5 and 7 that applies (Passing).
+use Rattle.fips197.proofs.Kit.{needs}
 use Rattle.files.proofs.Passing.{stop, run3, listed, passes3}
 use Rattle.checks.specs.Refused.{tagRefusal}
-use borrow.Author.Needs.{needs}
 use Rattle.checks.proofs.tag_refusal.Statement.{statement}
 use Rattle.checks.proofs.tag_refusal.Tie as tie
 

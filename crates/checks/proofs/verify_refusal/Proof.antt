@@ -1,7 +1,7 @@
 -- The first of 1, 3, 5, 6, 20 and 21 that applies (Passing).
+use Rattle.fips197.proofs.Kit.{needs}
 use Rattle.files.proofs.Passing.{stop, run2, run3, listed, passes1, passes2, passes3}
 use Rattle.checks.specs.Refused.{verifyRefusal}
-use borrow.Author.Needs.{needs}
 use Rattle.checks.proofs.verify_refusal.Statement.{statement}
 use Rattle.checks.proofs.verify_refusal.Tie as tie
 

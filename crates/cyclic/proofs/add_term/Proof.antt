@@ -1,6 +1,5 @@
 -- By whether e is below m.
-use borrow.Author.Tests.{lt-ltb, le-ltb}
-use borrow.Author.Needs.{needs}
+use Rattle.fips197.proofs.Kit.{lt-ltb, le-ltb, needs}
 use Rattle.cyclic.proofs.add_term.Statement.{statement}
 use Rattle.cyclic.proofs.add_term.Tie as tie
 

@@ -1,13 +1,8 @@
 -- Each array holds what the next call asks; the steps of the quotient are the pattern (Deriving). In the answers d, e, g and f are the
 -- places behind the calls that write D(x), x^m + 1, their divisor and x^m + 1 again, and s is the start.
-use mathlib.Core.Path.{ap, _∙_}
-use mathlib.Core.List.{List, _++_}
-use Prim.Native.Nat.{ℕ, suc}
-use native.Mathlib.Omega.{arith}
-use lib.ListN.{length, drop}
+use Rattle.fips197.proofs.Kit.{ap, _∙_, List, _++_, ℕ, suc, arith, length, drop, needs}
 use Rattle.polynomials.proofs.Dividing.{zeros-long}
 use Rattle.cyclic.proofs.Deriving.{zeros-modulus, steps-pattern}
-use borrow.Author.Needs.{needs}
 use Rattle.cyclic.proofs.derive.Statement.{statement}
 use Rattle.cyclic.proofs.derive.Tie as tie
 

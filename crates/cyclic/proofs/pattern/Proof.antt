@@ -1,13 +1,7 @@
 -- Where the call refuses, nothing is done (Deriving); else the fronts of the four arrays are m + 1 zeros.
-use mathlib.Core.Path.{_≡_}
-use mathlib.Core.Bool.{true}
-use mathlib.Core.Logic.{⊎-elim}
-use native.Mathlib.Omega.{arith}
-use lib.ListN.{length}
-use borrow.Author.Tests.{ltb-false}
+use Rattle.fips197.proofs.Kit.{_≡_, true, ⊎-elim, arith, length, ltb-false, needs}
 use Rattle.cyclic.specs.Deriving.{refuses}
 use Rattle.cyclic.proofs.Deriving.{lent-zeros, refuses-none, refuses-many, refuses-short, refuses-not, not-derived, none-written, is-derived, is-written}
-use borrow.Author.Needs.{needs}
 use Rattle.cyclic.proofs.pattern.Statement.{statement}
 use Rattle.cyclic.proofs.pattern.Tie as tie
 

@@ -1,10 +1,7 @@
 -- From the last member to the first, each turn adds one term (Terms).
-use mathlib.Core.Path.{_≡_}
-use Prim.Native.Nat.{_≤_}
-use lib.ListN.{length, drop}
+use Rattle.fips197.proofs.Kit.{_≡_, _≤_, length, drop, needs}
 use Rattle.cyclic.specs.CyclicCode.{ofList}
 use Rattle.cyclic.proofs.Terms.{list-room, list-none, list-more, list-all}
-use borrow.Author.Needs.{needs}
 use Rattle.cyclic.proofs.put_list.Statement.{statement}
 use Rattle.cyclic.proofs.put_list.Tie as tie
 

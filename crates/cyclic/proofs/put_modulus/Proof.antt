@@ -1,6 +1,6 @@
 -- Two terms are put into zeros (Terms).
+use Rattle.fips197.proofs.Kit.{needs}
 use Rattle.cyclic.proofs.Terms.{zeros-room, modulus-set}
-use borrow.Author.Needs.{needs}
 use Rattle.cyclic.proofs.put_modulus.Statement.{statement}
 use Rattle.cyclic.proofs.put_modulus.Tie as tie
 

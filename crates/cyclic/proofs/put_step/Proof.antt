@@ -1,7 +1,6 @@
 -- By whether the coefficient is 1.
-use borrow.Author.Tests.{eq-eqb, ne-eqb}
+use Rattle.fips197.proofs.Kit.{eq-eqb, ne-eqb, needs}
 use Rattle.cyclic.proofs.Steps.{behind-none}
-use borrow.Author.Needs.{needs}
 use Rattle.cyclic.proofs.put_step.Statement.{statement}
 use Rattle.cyclic.proofs.put_step.Tie as tie
 

@@ -1,9 +1,6 @@
 -- Each turn passes one step; those that are to be written stand at the front (Steps).
-use mathlib.Core.Path.{_≡_}
-use Prim.Native.Nat.{_-_, _≤_}
-use lib.ListN.{length}
+use Rattle.fips197.proofs.Kit.{_≡_, _-_, _≤_, length, needs}
 use Rattle.cyclic.proofs.Steps.{Front, back, steps-begun, steps-read, steps-few, steps-room, steps-next, steps-written, steps-counted}
-use borrow.Author.Needs.{needs}
 use Rattle.cyclic.proofs.put_steps.Statement.{statement}
 use Rattle.cyclic.proofs.put_steps.Tie as tie
 

@@ -1,6 +1,5 @@
 -- By its tests.
-use mathlib.Core.Logic.{⊎-elim}
-use borrow.Author.Tests.{eq-eqb, ne-eqb, le-leb, lt-leb}
+use Rattle.fips197.proofs.Kit.{⊎-elim, eq-eqb, ne-eqb, le-leb, lt-leb}
 use Rattle.incidence.specs.Report.{answerBy}
 use Rattle.decoding.proofs.choose.Statement.{statement}
 use Rattle.decoding.proofs.choose.Tie as tie

@@ -1,11 +1,8 @@
 -- Each turn compares one row (Picking).
-use mathlib.Core.Path.{_≡_, sym, _∙_}
-use Prim.Native.Nat.{_-_, _≤_}
-use native.Mathlib.Omega.{arith}
+use Rattle.fips197.proofs.Kit.{_≡_, sym, _∙_, _-_, _≤_, arith, needs}
 use Rattle.sizes.specs.Sizes.{familyOf}
 use Rattle.decoding.specs.Decoding.{agreesIn}
 use Rattle.decoding.proofs.Picking.{Compared, compared-first, compared-few, compared-agrees, compared-other, compared-done}
-use borrow.Author.Needs.{needs}
 use Rattle.decoding.proofs.clear_agreeing.Statement.{statement}
 use Rattle.decoding.proofs.clear_agreeing.Tie as tie
 
@@ -15,16 +12,10 @@ Inv-loop code n a b marks₀ last others₀ i₀ marks others i = (last ≡ fami
 abbrev μ-loop : tie.MeasureT-loop
 μ-loop code n a b marks₀ last others₀ i₀ marks others i = last - i
 
-rows-requires : tie.Need-rows-requires Inv-loop μ-loop
-rows-requires c κs = search needs
-
 loop-holds : tie.Need-loop-holds Inv-loop μ-loop
 loop-holds c =
     let d = c .before .before .before .before in
     (c .rows .ensures, omega arith, compared-first (familyOf (d .args .code)) (agreesIn (d .args .a .now) (d .args .b .now)) _ _)
-
-add-i : tie.Need-add-i Inv-loop μ-loop
-add-i c = search needs
 
 agree-requires : tie.Need-agree-requires Inv-loop μ-loop
 agree-requires c κs =
@@ -38,9 +29,6 @@ clear-row-requires c κs =
     let d = l .before .before .before .before .before in
     (d .pre .0 .0, omega (arith, d .pre .0 .1, l .loop .inv .2 .items .size))
 
-loop-less : tie.Need-loop-less Inv-loop μ-loop
-loop-less c = search needs
-
 loop-again : tie.Need-loop-again Inv-loop μ-loop
 loop-again c =
     let t = c .before .before .before .before in
@@ -50,16 +38,10 @@ loop-again c =
 add-others : tie.Need-add-others Inv-loop μ-loop
 add-others c = omega (arith, compared-few (c .before .before .before .loop .inv .2))
 
-loop-less-2 : tie.Need-loop-less-2 Inv-loop μ-loop
-loop-less-2 c = search needs
-
 loop-again-2 : tie.Need-loop-again-2 Inv-loop μ-loop
 loop-again-2 c =
     let l = c .before .before .before in
     (l .loop .inv .0, omega arith, compared-other (l .loop .inv .2) (sym (c .before .agree .ensures) ∙ c .if1 .left))
-
-same-length : tie.Need-same-length Inv-loop μ-loop
-same-length c = search needs
 
 returns : tie.Need-returns Inv-loop μ-loop
 returns c =
@@ -70,18 +52,5 @@ returns c =
 pub clear-agreeing-spec : {M : Type 1} → statement M
 clear-agreeing-spec =
     tie.close
-    (tie.spec
-    Inv-loop
-    μ-loop
-    rows-requires
-    loop-holds
-    add-i
-    agree-requires
-    clear-row-requires
-    loop-less
-    loop-again
-    add-others
-    loop-less-2
-    loop-again-2
-    same-length
-    returns)
+    (tie.spec Inv-loop μ-loop (λ c κs. search needs) loop-holds (λ c. search needs) agree-requires clear-row-requires
+    (λ c. search needs) loop-again add-others (λ c. search needs) loop-again-2 (λ c. search needs) returns)

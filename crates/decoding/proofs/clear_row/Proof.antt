@@ -1,12 +1,10 @@
 -- Each turn clears one item of the row (Picking).
-use Prim.Native.Nat.{_-_, _≤_}
-use native.Mathlib.Omega.{arith}
+use Rattle.fips197.proofs.Kit.{_-_, _≤_, arith, needs}
 use Rattle.incidence.specs.Family.{itemsOf}
 use Rattle.sizes.specs.Sizes.{familyOf}
 use Rattle.sizes.proofs.Laws.{item-list-few, written-at}
 use Rattle.decoding.specs.Decoding.{Cleared}
 use Rattle.decoding.proofs.Picking.{picked, picks-none, picks-next, picks-all, item-is}
-use borrow.Author.Needs.{needs}
 use Rattle.decoding.proofs.clear_row.Statement.{statement}
 use Rattle.decoding.proofs.clear_row.Tie as tie
 
@@ -20,9 +18,6 @@ few : (c : tie.After-items-of Inv-loop μ-loop) → c .items-of .result ≤ 17
 few c =
     let a = c .before .before .before .args in
     omega (arith, c .items-of .ensures .1, item-list-few (a .code) (a .row))
-
-items-of-requires : tie.Need-items-of-requires Inv-loop μ-loop
-items-of-requires c κs = search needs
 
 loop-holds : tie.Need-loop-holds Inv-loop μ-loop
 loop-holds c =
@@ -46,12 +41,6 @@ clear-item-requires c κs =
       omega (arith, d .pre .1, l .loop .inv .1 .size),
     )
 
-add-k : tie.Need-add-k Inv-loop μ-loop
-add-k c = search needs
-
-loop-less : tie.Need-loop-less Inv-loop μ-loop
-loop-less c = search needs
-
 loop-again : tie.Need-loop-again Inv-loop μ-loop
 loop-again c =
     let t = c .before .before .before .before in
@@ -63,9 +52,6 @@ loop-again c =
           (written-at items _ (l .before .items-of .ensures) (l .loop .k) (t .loop-test .taken)) (c .before .before .clear-item .ensures),
     )
 
-same-length : tie.Need-same-length Inv-loop μ-loop
-same-length c = search needs
-
 returns : tie.Need-returns Inv-loop μ-loop
 returns c =
     let l = c .before in
@@ -75,4 +61,5 @@ returns c =
 pub clear-row-spec : {M : Type 1} → statement M
 clear-row-spec =
     tie.close
-    (tie.spec Inv-loop μ-loop items-of-requires loop-holds mul-clear-item array-read-clear-item clear-item-requires add-k loop-less loop-again same-length returns)
+    (tie.spec Inv-loop μ-loop (λ c κs. search needs) loop-holds mul-clear-item array-read-clear-item clear-item-requires
+    (λ c. search needs) (λ c. search needs) loop-again (λ c. search needs) returns)

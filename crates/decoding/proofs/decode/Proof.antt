@@ -1,33 +1,11 @@
 -- All items are marked, those that an agreeing row holds are cleared, and the rest follows from the marks (Marks).
-use mathlib.Core.Path.{_∙_}
+use Rattle.fips197.proofs.Kit.{_∙_, needs}
 use Rattle.incidence.specs.Report.{named}
 use Rattle.sizes.specs.Sizes.{familyOf}
 use Rattle.decoding.specs.Decoding.{agreesIn}
 use Rattle.decoding.proofs.Marks.{named-marked, count-is, unexplained-is, answer-is, marked-list}
-use borrow.Author.Needs.{needs}
 use Rattle.decoding.proofs.decode.Statement.{statement}
 use Rattle.decoding.proofs.decode.Tie as tie
-
-mark-all-requires : tie.Need-mark-all-requires
-mark-all-requires c κs = search needs
-
-clear-agreeing-requires : tie.Need-clear-agreeing-requires
-clear-agreeing-requires c κs = search needs
-
-count-named-requires : tie.Need-count-named-requires
-count-named-requires c κs = search needs
-
-find-unexplained-requires : tie.Need-find-unexplained-requires
-find-unexplained-requires c κs = search needs
-
-limit-requires : tie.Need-limit-requires
-limit-requires c κs = search needs
-
-choose-requires : tie.Need-choose-requires
-choose-requires c κs = search needs
-
-same-length : tie.Need-same-length
-same-length c = search needs
 
 returns : tie.Need-returns
 returns c =
@@ -49,12 +27,5 @@ returns c =
 pub decode-spec : {M : Type 1} → statement M
 decode-spec =
     tie.close
-    (tie.spec
-    mark-all-requires
-    clear-agreeing-requires
-    count-named-requires
-    find-unexplained-requires
-    limit-requires
-    choose-requires
-    same-length
-    returns)
+    (tie.spec (λ c κs. search needs) (λ c κs. search needs) (λ c κs. search needs) (λ c κs. search needs) (λ c κs. search needs)
+    (λ c κs. search needs) (λ c. search needs) returns)

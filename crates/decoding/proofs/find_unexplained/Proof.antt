@@ -1,14 +1,10 @@
 -- Each turn tests one row (Picking).
-use mathlib.Core.Path.{_≡_, refl, sym, ap, _∙_}
-use mathlib.Core.Bool.{false}
-use Prim.Native.Nat.{_+_, _-_, _≤_}
-use native.Mathlib.Omega.{arith}
+use Rattle.fips197.proofs.Kit.{_≡_, refl, sym, ap, _∙_, false, _+_, _-_, _≤_, arith, needs}
 use Rattle.incidence.specs.Count.{anyUpTo}
 use Rattle.incidence.proofs.Counting.{any-some}
 use Rattle.sizes.specs.Sizes.{familyOf}
 use Rattle.decoding.specs.Decoding.{agreesIn, unexplainedIn}
 use Rattle.decoding.proofs.Picking.{any-fails}
-use borrow.Author.Needs.{needs}
 use Rattle.decoding.proofs.find_unexplained.Statement.{statement}
 use Rattle.decoding.proofs.find_unexplained.Tie as tie
 
@@ -18,14 +14,8 @@ Inv-loop code n a b marks rows i₀ i = (i ≤ rows) × (anyUpTo (unexplainedIn 
 abbrev μ-loop : tie.MeasureT-loop
 μ-loop code n a b marks rows i₀ i = rows - i
 
-rows-requires : tie.Need-rows-requires Inv-loop μ-loop
-rows-requires c κs = search needs
-
 loop-holds : tie.Need-loop-holds Inv-loop μ-loop
 loop-holds c = (omega arith, refl)
-
-add-i : tie.Need-add-i Inv-loop μ-loop
-add-i c = search needs
 
 is-unexplained-requires : tie.Need-is-unexplained-requires Inv-loop μ-loop
 is-unexplained-requires c κs =
@@ -39,9 +29,6 @@ returns c =
     let d = l .before .before .before .before .before in
     sym (any-some (unexplainedIn (familyOf (d .args .code)) (agreesIn (d .args .a .now) (d .args .b .now)) (d .args .marks .now) (d .args .n)) (familyOf (d .args .code) .rows) (l .loop .i + 1) (omega arith)
     (omega (arith, l .before .rows .ensures)) (sym (c .before .is-unexplained .ensures) ∙ c .if1 .taken))
-
-loop-less : tie.Need-loop-less Inv-loop μ-loop
-loop-less c = search needs
 
 loop-again : tie.Need-loop-again Inv-loop μ-loop
 loop-again c =
@@ -62,14 +49,5 @@ returns-2 c =
 pub find-unexplained-spec : {M : Type 1} → statement M
 find-unexplained-spec =
     tie.close
-    (tie.spec
-    Inv-loop
-    μ-loop
-    rows-requires
-    loop-holds
-    add-i
-    is-unexplained-requires
-    returns
-    loop-less
-    loop-again
-    returns-2)
+    (tie.spec Inv-loop μ-loop (λ c κs. search needs) loop-holds (λ c. search needs) is-unexplained-requires returns
+    (λ c. search needs) loop-again returns-2)

@@ -1,12 +1,9 @@
 -- Each turn looks at one item of the row (Picking).
-use mathlib.Core.Path.{_∙_, sym}
-use Prim.Native.Nat.{_-_, _≤_}
-use native.Mathlib.Omega.{arith}
+use Rattle.fips197.proofs.Kit.{_∙_, sym, _-_, _≤_, arith, needs}
 use Rattle.incidence.specs.Family.{itemsOf}
 use Rattle.sizes.specs.Sizes.{familyOf}
 use Rattle.sizes.proofs.Laws.{item-list-few, written-at}
 use Rattle.decoding.proofs.Picking.{Bare, bare-first, bare-next, bare-all, holds-this, item-is}
-use borrow.Author.Needs.{needs}
 use Rattle.decoding.proofs.holds_named.Statement.{statement}
 use Rattle.decoding.proofs.holds_named.Tie as tie
 
@@ -20,9 +17,6 @@ few : (c : tie.After-items-of Inv-loop μ-loop) → c .items-of .result ≤ 17
 few c =
     let a = c .before .before .before .args in
     omega (arith, c .items-of .ensures .1, item-list-few (a .code) (a .row))
-
-items-of-requires : tie.Need-items-of-requires Inv-loop μ-loop
-items-of-requires c κs = search needs
 
 loop-holds : tie.Need-loop-holds Inv-loop μ-loop
 loop-holds c =
@@ -53,12 +47,6 @@ returns c =
     sym (holds-this F (a .row) (a .n) (a .marks .now) (l .loop .k) _ (written-at (itemsOf F (a .row)) _ w (l .loop .k) (t .loop-test .taken))
     (omega (arith, w .1, t .loop-test .taken)) (sym (c .before .is-named .ensures) ∙ c .if1 .taken))
 
-add-k : tie.Need-add-k Inv-loop μ-loop
-add-k c = search needs
-
-loop-less : tie.Need-loop-less Inv-loop μ-loop
-loop-less c = search needs
-
 loop-again : tie.Need-loop-again Inv-loop μ-loop
 loop-again c =
     let t = c .before .before in
@@ -80,4 +68,5 @@ returns-2 c =
 pub holds-named-spec : {M : Type 1} → statement M
 holds-named-spec =
     tie.close
-    (tie.spec Inv-loop μ-loop items-of-requires loop-holds mul-is-named array-read-is-named is-named-requires returns add-k loop-less loop-again returns-2)
+    (tie.spec Inv-loop μ-loop (λ c κs. search needs) loop-holds mul-is-named array-read-is-named is-named-requires returns
+    (λ c. search needs) (λ c. search needs) loop-again returns-2)

@@ -1,17 +1,9 @@
 -- By its two tests.
-use mathlib.Core.Path.{_∙_, sym, ap, ap₂}
-use mathlib.Core.Bool.{Bool, not, _&&_}
+use Rattle.fips197.proofs.Kit.{_∙_, sym, ap, ap₂, Bool, not, _&&_, needs}
 use Rattle.sizes.specs.Sizes.{familyOf}
 use Rattle.decoding.specs.Decoding.{holdsMarked, unexplainedIn}
-use borrow.Author.Needs.{needs}
 use Rattle.decoding.proofs.is_unexplained.Statement.{statement}
 use Rattle.decoding.proofs.is_unexplained.Tie as tie
-
-agree-requires : tie.Need-agree-requires
-agree-requires c κs = search needs
-
-holds-named-requires : tie.Need-holds-named-requires
-holds-named-requires c κs = search needs
 
 returns : tie.Need-returns
 unfolding unexplainedIn
@@ -24,4 +16,4 @@ returns-2 c =
     c .if1 .left ∙ ap (λ (t : Bool). t && not (holdsMarked (familyOf (d .args .code)) (d .args .marks .now) (d .args .n) (d .args .i))) (sym (c .if1 .left) ∙ ap not (c .before .agree .ensures))
 
 pub is-unexplained-spec : {M : Type 1} → statement M
-is-unexplained-spec = tie.close (tie.spec agree-requires holds-named-requires returns returns-2)
+is-unexplained-spec = tie.close (tie.spec (λ c κs. search needs) (λ c κs. search needs) returns returns-2)

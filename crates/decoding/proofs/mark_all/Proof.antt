@@ -1,9 +1,7 @@
 -- Each turn marks one item (Marks).
-use Prim.Native.Nat.{_-_, _≤_}
-use native.Mathlib.Omega.{arith}
+use Rattle.fips197.proofs.Kit.{_-_, _≤_, arith, needs}
 use Rattle.decoding.specs.Decoding.{Marked}
 use Rattle.decoding.proofs.Marks.{marked-first, marked-next, marked-done}
-use borrow.Author.Needs.{needs}
 use Rattle.decoding.proofs.mark_all.Statement.{statement}
 use Rattle.decoding.proofs.mark_all.Tie as tie
 
@@ -19,19 +17,10 @@ loop-holds c = (omega arith, marked-first _ _)
 slice-write-marks : tie.Need-slice-write-marks Inv-loop μ-loop
 slice-write-marks c = omega (arith, c .before .loop .inv .1 .size)
 
-add-i : tie.Need-add-i Inv-loop μ-loop
-add-i c = search needs
-
-loop-less : tie.Need-loop-less Inv-loop μ-loop
-loop-less c = search needs
-
 loop-again : tie.Need-loop-again Inv-loop μ-loop
 loop-again c =
     let l = c .before .loop in
     (omega arith, marked-next (λ j. 1) _ (l .marks) (l .i) (l .inv .1) (omega (arith, l .inv .1 .size)))
-
-same-length : tie.Need-same-length Inv-loop μ-loop
-same-length c = search needs
 
 returns : tie.Need-returns Inv-loop μ-loop
 returns c =
@@ -41,13 +30,5 @@ returns c =
 pub mark-all-spec : {M : Type 1} → statement M
 mark-all-spec =
     tie.close
-    (tie.spec
-    Inv-loop
-    μ-loop
-    loop-holds
-    slice-write-marks
-    add-i
-    loop-less
-    loop-again
-    same-length
+    (tie.spec Inv-loop μ-loop loop-holds slice-write-marks (λ c. search needs) (λ c. search needs) loop-again (λ c. search needs)
     returns)

@@ -1,14 +1,9 @@
 -- Each turn stores one member (cipher's Loop).
-use mathlib.Core.Path.{_≡_, refl}
-use Prim.Native.Nat.{_-_, _≤_, _<_}
-use native.Mathlib.Omega.{arith}
-use lib.ListN.{length}
-use denote.Ref.{now}
+use Rattle.fips197.proofs.Kit.{_≡_, refl, _-_, _≤_, _<_, arith, length, now, needs}
 use Rattle.cipher.proofs.Loop.{part, part-turn, part-front}
 use Rattle.plane.specs.Table.{differences}
 use Rattle.plane.proofs.Lookup.{differences-few}
 use Rattle.deriving.proofs.Members.{member-small}
-use borrow.Author.Needs.{needs}
 use Rattle.deriving.proofs.copy_differences.Statement.{statement}
 use Rattle.deriving.proofs.copy_differences.Tie as tie
 

@@ -1,6 +1,6 @@
 -- The list handed on is the plane's, and what is written is its pattern (Members).
+use Rattle.fips197.proofs.Kit.{needs}
 use Rattle.deriving.proofs.Members.{list-few, lent-list, derived-count, derived-written}
-use borrow.Author.Needs.{needs}
 use Rattle.deriving.proofs.derive.Statement.{statement}
 use Rattle.deriving.proofs.derive.Tie as tie
 

@@ -1,9 +1,6 @@
 -- The lines derived are those in use (Printing).
-use mathlib.Core.Path.{_≡_}
-use lib.ListN.{length}
-use denote.Ref.{now}
+use Rattle.fips197.proofs.Kit.{_≡_, length, now, needs}
 use Rattle.deriving.proofs.Printing.{all-derived, all-in-use, all-counts}
-use borrow.Author.Needs.{needs}
 use Rattle.deriving.proofs.print.Statement.{statement}
 use Rattle.deriving.proofs.print.Tie as tie
 

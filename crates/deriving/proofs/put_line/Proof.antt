@@ -1,11 +1,10 @@
 -- Three texts, one behind the other (printing's Putting); the words are those of the pattern derived (Words).
-use denote.Ref.{now}
+use Rattle.fips197.proofs.Kit.{now, needs}
 use Rattle.printing.specs.Text.{ascii, decimal}
 use Rattle.printing.proofs.Putting.{put-as, room-as, three₁, three₂, three₃, three}
 use Rattle.deriving.specs.Lines.{words, patternLine}
 use Rattle.deriving.specs.Derived.{derived}
 use Rattle.deriving.proofs.Words.{words-front, front-fits}
-use borrow.Author.Needs.{needs}
 use Rattle.deriving.proofs.put_line.Statement.{statement}
 use Rattle.deriving.proofs.put_line.Tie as tie
 

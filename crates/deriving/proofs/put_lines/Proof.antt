@@ -1,13 +1,9 @@
 -- Each turn puts one size's line behind the others (Printing).
-use Prim.Native.Nat.{_-_, _≤_}
-use native.Mathlib.Omega.{arith}
-use lib.ListN.{length}
-use denote.Ref.{now}
+use Rattle.fips197.proofs.Kit.{_-_, _≤_, arith, length, now, needs}
 use Rattle.printing.proofs.Putting.{Put, put-none, put-as, two₂, two}
 use Rattle.deriving.specs.Derived.{derived}
 use Rattle.deriving.specs.Lines.{patternLine, patternLines}
 use Rattle.deriving.proofs.Printing.{lines-more, lines-room, lines-size, lines-all}
-use borrow.Author.Needs.{needs}
 use Rattle.deriving.proofs.put_lines.Statement.{statement}
 use Rattle.deriving.proofs.put_lines.Tie as tie
 

@@ -1,6 +1,6 @@
 -- The text is a space and a number.
+use Rattle.fips197.proofs.Kit.{needs}
 use Rattle.printing.specs.Text.{ascii, labelled}
-use borrow.Author.Needs.{needs}
 use Rattle.deriving.proofs.put_word.Statement.{statement}
 use Rattle.deriving.proofs.put_word.Tie as tie
 

@@ -1,14 +1,9 @@
 -- Each turn puts one step behind those that stand (printing's Putting, Words).
-use mathlib.Core.Path.{_≡_, sym, ap}
-use Prim.Native.Nat.{ℕ, _-_, _≤_}
-use native.Mathlib.Omega.{arith}
-use lib.ListN.{getD, take}
-use denote.Ref.{now}
+use Rattle.fips197.proofs.Kit.{_≡_, sym, ap, ℕ, _-_, _≤_, arith, getD, take, now, needs}
 use Rattle.printing.specs.Text.{labelled}
 use Rattle.printing.proofs.Putting.{Put, put-none, put-as, put-size, two₂, two}
 use Rattle.deriving.specs.Lines.{words}
 use Rattle.deriving.proofs.Words.{words-next, words-fewer, words-room}
-use borrow.Author.Needs.{needs}
 use Rattle.deriving.proofs.put_words.Statement.{statement}
 use Rattle.deriving.proofs.put_words.Tie as tie
 

@@ -1,6 +1,5 @@
 -- A thousand turns.
-use Prim.Native.Nat.{_≤_, _-_}
-use borrow.Author.Needs.{needs}
+use Rattle.fips197.proofs.Kit.{_≤_, _-_, needs}
 use Rattle.engines.proofs.chain.Statement.{statement}
 use Rattle.engines.proofs.chain.Tie as tie
 

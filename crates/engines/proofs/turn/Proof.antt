@@ -1,8 +1,5 @@
 -- No more blocks are turned than asked for; out is as long as it was.
-use Prim.Native.Nat.{_≤_, _-_}
-use mathlib.Core.Path.{_≡_}
-use lib.ListN.{length}
-use borrow.Author.Needs.{needs}
+use Rattle.fips197.proofs.Kit.{_≤_, _-_, _≡_, length, needs}
 use Rattle.engines.proofs.turn.Statement.{statement}
 use Rattle.engines.proofs.turn.Tie as tie
 

@@ -1,7 +1,6 @@
 -- What the call says, packed, and demand 3 of it (Packing).
-use mathlib.Core.Path.{_∙_}
+use Rattle.fips197.proofs.Kit.{_∙_, needs}
 use Rattle.firmware.proofs.Packing.{packed-same, report-read, claim-packed}
-use borrow.Author.Needs.{needs}
 use Rattle.firmware.proofs.gtm_report.Statement.{statement}
 use Rattle.firmware.proofs.gtm_report.Tie as tie
 

@@ -1,7 +1,6 @@
 -- What the call says, packed.
-use mathlib.Core.Path.{ap, _∙_}
+use Rattle.fips197.proofs.Kit.{ap, _∙_, needs}
 use Rattle.firmware.specs.Packed.{packed}
-use borrow.Author.Needs.{needs}
 use Rattle.firmware.proofs.gtm_tag.Statement.{statement}
 use Rattle.firmware.proofs.gtm_tag.Tie as tie
 

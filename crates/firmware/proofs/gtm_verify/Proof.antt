@@ -1,7 +1,6 @@
 -- What the call says, packed.
-use mathlib.Core.Path.{ap₂, _∙_}
+use Rattle.fips197.proofs.Kit.{ap₂, _∙_, needs}
 use Rattle.firmware.specs.Packed.{packedYes}
-use borrow.Author.Needs.{needs}
 use Rattle.firmware.proofs.gtm_verify.Statement.{statement}
 use Rattle.firmware.proofs.gtm_verify.Tie as tie
 

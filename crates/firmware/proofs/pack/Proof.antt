@@ -1,7 +1,6 @@
 -- The sum as it stands.
-use mathlib.Core.Path.{refl}
+use Rattle.fips197.proofs.Kit.{refl, needs}
 use Rattle.firmware.specs.Packed.{packed}
-use borrow.Author.Needs.{needs}
 use Rattle.firmware.proofs.pack.Statement.{statement}
 use Rattle.firmware.proofs.pack.Tie as tie
 

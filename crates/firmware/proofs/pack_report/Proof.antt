@@ -1,10 +1,7 @@
 -- Refused, or answer and numbers (Packing).
-use mathlib.Core.Path.{sym, ap, _∙_}
-use Prim.Native.Nat.{ℕ, _+_, _*_, _%_}
-use native.Mathlib.Omega.{arith}
+use Rattle.fips197.proofs.Kit.{sym, ap, _∙_, ℕ, _+_, _*_, _%_, arith, needs}
 use Rattle.firmware.specs.Packed.{numberIn}
 use Rattle.firmware.proofs.Packing.{number-back, report-done, report-refused, ordinal-small}
-use borrow.Author.Needs.{needs}
 use Rattle.firmware.proofs.pack_report.Statement.{statement}
 use Rattle.firmware.proofs.pack_report.Tie as tie
 

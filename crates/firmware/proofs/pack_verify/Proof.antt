@@ -1,10 +1,7 @@
 -- Refused, yes or no (Packing).
-use mathlib.Core.Path.{sym, ap, _∙_}
-use mathlib.Core.Bool.{Bool}
-use Prim.Native.Nat.{_*_}
+use Rattle.fips197.proofs.Kit.{sym, ap, _∙_, Bool, _*_, needs}
 use Rattle.incidence.specs.Count.{indicator}
 use Rattle.firmware.proofs.Packing.{yes-done, yes-refused}
-use borrow.Author.Needs.{needs}
 use Rattle.firmware.proofs.pack_verify.Statement.{statement}
 use Rattle.firmware.proofs.pack_verify.Tie as tie
 

@@ -1,10 +1,7 @@
 -- The number and the item are the two parts.
-use mathlib.Core.Path.{ap, _∙_}
-use mathlib.Core.List.{List, _++_}
-use Prim.Native.Nat.{ℕ}
+use Rattle.fips197.proofs.Kit.{ap, _∙_, List, _++_, ℕ, needs}
 use Rattle.cipher.specs.Cmac.{macWith}
 use Rattle.keyed.specs.Keyed.{itemHashBy}
-use borrow.Author.Needs.{needs}
 use Rattle.keyed.proofs.item_hash.Statement.{statement}
 use Rattle.keyed.proofs.item_hash.Tie as tie
 

@@ -1,6 +1,6 @@
 -- The enciphered zero block, not doubled yet.
+use Rattle.fips197.proofs.Kit.{needs}
 use Rattle.keyed.specs.Keyed.{maskBy, doubled}
-use borrow.Author.Needs.{needs}
 use Rattle.keyed.proofs.mask_zero.Statement.{statement}
 use Rattle.keyed.proofs.mask_zero.Tie as tie
 

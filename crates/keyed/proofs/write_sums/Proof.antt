@@ -1,8 +1,6 @@
 -- Copied, masked, deciphered and masked again (KeyedLaws).
-use mathlib.Core.Path.{_≡_}
-use lib.ListN.{length}
+use Rattle.fips197.proofs.Kit.{_≡_, length, needs}
 use Rattle.keyed.proofs.KeyedLaws.{sums-code}
-use borrow.Author.Needs.{needs}
 use Rattle.keyed.proofs.write_sums.Statement.{statement}
 use Rattle.keyed.proofs.write_sums.Tie as tie
 

@@ -1,8 +1,6 @@
 -- Copied, masked, enciphered and masked again (KeyedLaws).
-use mathlib.Core.Path.{_≡_}
-use lib.ListN.{length}
+use Rattle.fips197.proofs.Kit.{_≡_, length, needs}
 use Rattle.keyed.proofs.KeyedLaws.{tags-code}
-use borrow.Author.Needs.{needs}
 use Rattle.keyed.proofs.write_tags.Statement.{statement}
 use Rattle.keyed.proofs.write_tags.Tie as tie
 

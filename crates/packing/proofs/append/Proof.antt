@@ -1,9 +1,8 @@
 -- The file with the item where the refusal's number is 0, else all as it was (Refusing).
-use mathlib.Core.Path.{_∙_}
+use Rattle.fips197.proofs.Kit.{_∙_, needs}
 use Rattle.files.proofs.Passing.{given, kept}
 use Rattle.packing.specs.Packing.{appendRefusal, appendWrites}
 use Rattle.packing.proofs.Refusing.{appendable}
-use borrow.Author.Needs.{needs}
 use Rattle.packing.proofs.append.Statement.{statement}
 use Rattle.packing.proofs.append.Tie as tie
 

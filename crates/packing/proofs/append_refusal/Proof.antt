@@ -1,16 +1,10 @@
 -- 9, 7 and what is refused of the file, in this order (Passing).
-use mathlib.Core.Path.{_≡_, refl, ap, _∙_}
-use mathlib.Core.List.{[], _∷_}
-use Prim.Native.Nat.{ℕ, _+_, _-_, _≤_}
-use native.Mathlib.Omega.{arith}
-use lib.Dec.{leb, ltb}
-use lib.ListN.{length, take}
+use Rattle.fips197.proofs.Kit.{_≡_, refl, ap, _∙_, [], _∷_, ℕ, _+_, _-_, _≤_, arith, leb, ltb, length, take, needs}
 use Rattle.files.specs.Refusals.{unless, first}
 use Rattle.files.specs.Message.{itemCount, refuse3}
 use Rattle.files.proofs.Passing.{stop, run2, run-end, listed, passes2, same-first, same-cons, same-nil}
 use Rattle.packing.specs.Packing.{appendRefusal}
 use Rattle.packing.proofs.Refusing.{room-tells}
-use borrow.Author.Needs.{needs}
 use Rattle.packing.proofs.append_refusal.Statement.{statement}
 use Rattle.packing.proofs.append_refusal.Tie as tie
 

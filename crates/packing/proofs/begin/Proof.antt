@@ -1,14 +1,10 @@
 -- The seven bytes of the file without items where there is room, else all as it was (Refusing).
-use mathlib.Core.Path.{_∙_}
-use mathlib.Core.List.{[], _++_}
-use native.Mathlib.Omega.{arith}
-use lib.ListN.{length, drop}
+use Rattle.fips197.proofs.Kit.{_∙_, [], _++_, arith, length, drop, needs}
 use Rattle.cipher.specs.Number.{bigEndian}
 use Rattle.files.specs.Message.{prefix}
 use Rattle.files.proofs.Passing.{given, kept}
 use Rattle.packing.specs.Packing.{fields, messageOf, beginFileRefusal, beginFileWrites}
 use Rattle.packing.proofs.Refusing.{room-tells}
-use borrow.Author.Needs.{needs}
 use Rattle.packing.proofs.begin.Statement.{statement}
 use Rattle.packing.proofs.begin.Tie as tie
 

@@ -1,6 +1,6 @@
 -- The header, the length with the item, and the count, in this order (Passing).
+use Rattle.fips197.proofs.Kit.{needs}
 use Rattle.files.proofs.Passing.{number-of, stop, listed}
-use borrow.Author.Needs.{needs}
 use Rattle.packing.proofs.check_file.Statement.{statement}
 use Rattle.packing.proofs.check_file.Tie as tie
 

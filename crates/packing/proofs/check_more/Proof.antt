@@ -1,11 +1,7 @@
 -- The count stands in a file that 3 does not refuse.
-use mathlib.Core.Path.{ap, _∙_}
-use Prim.Native.Nat.{ℕ}
-use native.Mathlib.Omega.{arith}
-use lib.Dec.{ltb}
+use Rattle.fips197.proofs.Kit.{ap, _∙_, ℕ, arith, ltb, needs}
 use Rattle.files.specs.Refusals.{unless}
 use Rattle.files.proofs.Messages.{headed}
-use borrow.Author.Needs.{needs}
 use Rattle.packing.proofs.check_more.Statement.{statement}
 use Rattle.packing.proofs.check_more.Tie as tie
 

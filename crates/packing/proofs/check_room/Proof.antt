@@ -1,8 +1,6 @@
 -- Room for n bytes, and for the item behind them (Refusing).
-use mathlib.Core.Path.{_∙_}
-use lib.ListN.{length}
+use Rattle.fips197.proofs.Kit.{_∙_, length, needs}
 use Rattle.packing.proofs.Refusing.{room-short, room-rest}
-use borrow.Author.Needs.{needs}
 use Rattle.packing.proofs.check_room.Statement.{statement}
 use Rattle.packing.proofs.check_room.Tie as tie
 

@@ -1,10 +1,7 @@
 -- Three puts, one after another (Writing).
-use mathlib.Core.Path.{ap, _∙_}
-use Prim.Native.Nat.{ℕ, _+_}
-use native.Mathlib.Omega.{arith}
+use Rattle.fips197.proofs.Kit.{ap, _∙_, ℕ, _+_, arith, needs}
 use Rattle.cipher.specs.Number.{bigEndian}
 use Rattle.packing.proofs.Writing.{count-read, item-put}
-use borrow.Author.Needs.{needs}
 use Rattle.packing.proofs.put_item.Statement.{statement}
 use Rattle.packing.proofs.put_item.Tie as tie
 

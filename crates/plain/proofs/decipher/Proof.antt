@@ -1,7 +1,7 @@
 -- With the expanded key; then the inverse law, over a key of 16 bytes (Laws).
+use Rattle.fips197.proofs.Kit.{needs}
 use Rattle.fips197.specs.Block.{Block}
 use Rattle.fips197.proofs.Laws.{block-of, deciphered}
-use borrow.Author.Needs.{needs}
 use Rattle.plain.proofs.decipher.Statement.{statement}
 use Rattle.plain.proofs.decipher.Tie as tie
 

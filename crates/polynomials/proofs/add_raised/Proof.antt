@@ -1,12 +1,9 @@
 -- From x^k on, each turn adds one coefficient (Raising).
-use mathlib.Core.Path.{_≡_}
-use Prim.Native.Nat.{_-_, _≤_}
-use lib.ListN.{length}
+use Rattle.fips197.proofs.Kit.{_≡_, _-_, _≤_, length, needs}
 use Rattle.cipher.specs.Block.{_⊕_}
 use Rattle.cipher.proofs.Loop.{part}
 use Rattle.polynomials.specs.Polynomial.{raised}
 use Rattle.polynomials.proofs.Raising.{sum-begun, sum-next, sum-done}
-use borrow.Author.Needs.{needs}
 use Rattle.polynomials.proofs.add_raised.Statement.{statement}
 use Rattle.polynomials.proofs.add_raised.Tie as tie
 

@@ -1,10 +1,7 @@
 -- Each turn takes one step; what is left to do gives the quotient (Dividing).
-use mathlib.Core.Path.{_≡_}
-use Prim.Native.Nat.{_-_, _≤_}
-use lib.ListN.{length}
+use Rattle.fips197.proofs.Kit.{_≡_, _-_, _≤_, length, needs}
 use Rattle.polynomials.specs.Polynomial.{quotientIn, quotient}
 use Rattle.polynomials.proofs.Dividing.{zeros-long, quotient-begun, quotient-next, quotient-done}
-use borrow.Author.Needs.{needs}
 use Rattle.polynomials.proofs.divide.Statement.{statement}
 use Rattle.polynomials.proofs.divide.Tie as tie
 

@@ -1,7 +1,7 @@
 -- By whether q goes into p (Dividing).
+use Rattle.fips197.proofs.Kit.{needs}
 use Rattle.polynomials.proofs.Sizes.{gap-most, gap-inside}
 use Rattle.polynomials.proofs.Dividing.{quotient-none, quotient-over, quotient-more}
-use borrow.Author.Needs.{needs}
 use Rattle.polynomials.proofs.divide_once.Statement.{statement}
 use Rattle.polynomials.proofs.divide_once.Tie as tie
 

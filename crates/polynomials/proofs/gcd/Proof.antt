@@ -1,12 +1,8 @@
 -- Each turn takes one step; what is left to do gives the divisor (Dividing).
-use mathlib.Core.Path.{_≡_}
-use Prim.Native.Nat.{_-_, _≤_}
-use native.Mathlib.Omega.{arith}
-use lib.ListN.{length}
+use Rattle.fips197.proofs.Kit.{_≡_, _-_, _≤_, arith, length, needs}
 use Rattle.polynomials.specs.Polynomial.{gcdIn, gcd}
 use Rattle.polynomials.proofs.Sizes.{sizes-few}
 use Rattle.polynomials.proofs.Dividing.{gcd-begun, gcd-next, gcd-done}
-use borrow.Author.Needs.{needs}
 use Rattle.polynomials.proofs.gcd.Statement.{statement}
 use Rattle.polynomials.proofs.gcd.Tie as tie
 

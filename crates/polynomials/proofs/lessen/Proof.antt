@@ -1,7 +1,7 @@
 -- By which of the two is longer, where neither is 0 (Dividing).
+use Rattle.fips197.proofs.Kit.{needs}
 use Rattle.polynomials.proofs.Sizes.{gap-most}
 use Rattle.polynomials.proofs.Dividing.{gcd-first-none, gcd-second-none, gcd-first, gcd-second}
-use borrow.Author.Needs.{needs}
 use Rattle.polynomials.proofs.lessen.Statement.{statement}
 use Rattle.polynomials.proofs.lessen.Tie as tie
 

@@ -1,11 +1,7 @@
 -- What is kept is the size of the coefficients passed (Sizes).
-use mathlib.Core.Path.{_≡_, _∙_}
-use mathlib.Core.Logic.{⊎-elim}
-use Prim.Native.Nat.{_-_, _≤_}
-use lib.ListN.{length, take}
+use Rattle.fips197.proofs.Kit.{_≡_, _∙_, ⊎-elim, _-_, _≤_, length, take, needs}
 use Rattle.polynomials.specs.Polynomial.{polySize}
 use Rattle.polynomials.proofs.Sizes.{size-one, size-other, size-whole}
-use borrow.Author.Needs.{needs}
 use Rattle.polynomials.proofs.size.Statement.{statement}
 use Rattle.polynomials.proofs.size.Tie as tie
 

@@ -1,11 +1,9 @@
 -- Four texts, one behind the other (Putting).
+use Rattle.fips197.proofs.Kit.{now, length, needs}
 use Rattle.printing.specs.Text.{ascii, labelled}
 use Rattle.printing.specs.Lines.{answerWord, answerLine}
 use Rattle.printing.proofs.Putting.{room-for, put-short, four₁, four₂, four₃, four₄, four}
-use denote.Ref.{now}
-use lib.ListN.{length}
 use Rattle.printing.proofs.Lengths.{answer-short}
-use borrow.Author.Needs.{needs}
 use Rattle.printing.proofs.put_answer.Statement.{statement}
 use Rattle.printing.proofs.put_answer.Tie as tie
 

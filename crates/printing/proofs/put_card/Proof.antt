@@ -1,10 +1,9 @@
 -- Nothing, or two texts, one behind the other (Putting).
+use Rattle.fips197.proofs.Kit.{now, needs}
 use Rattle.printing.specs.Text.{ascii, labelled}
 use Rattle.printing.specs.Lines.{cardLine}
 use Rattle.printing.proofs.Putting.{put-none, put-as, room-as, two₁, two₂, two}
 use Rattle.printing.proofs.CardLines.{part-none, part-named}
-use denote.Ref.{now}
-use borrow.Author.Needs.{needs}
 use Rattle.printing.proofs.put_card.Statement.{statement}
 use Rattle.printing.proofs.put_card.Tie as tie
 

@@ -1,14 +1,9 @@
 -- Each turn puts one card's line behind those that stand (Putting, CardLines).
-use mathlib.Core.Path.{_≡_, sym, ap}
-use Prim.Native.Nat.{_+_, _-_, _*_, _≤_}
-use native.Mathlib.Omega.{arith}
-use lib.ListN.{length, getD}
-use denote.Ref.{now}
+use Rattle.fips197.proofs.Kit.{_≡_, sym, ap, _+_, _-_, _*_, _≤_, arith, length, getD, now, needs}
 use Rattle.printing.specs.Lines.{cardPart, cardLines}
 use Rattle.printing.proofs.Putting.{room-for, put-short, Put, put-none, put-as, put-size, two₂, two}
 use Rattle.printing.proofs.CardLines.{lines-next, lines-fewer, lines-room}
 use Rattle.printing.proofs.Lengths.{cards-short}
-use borrow.Author.Needs.{needs}
 use Rattle.printing.proofs.put_cards.Statement.{statement}
 use Rattle.printing.proofs.put_cards.Tie as tie
 

@@ -1,13 +1,7 @@
 -- The digits are written from the last to the first: those before the ones that stand are the digits of what rests (Decimals).
-use mathlib.Core.Path.{_≡_, refl, sym, _∙_, ap, subst}
-use mathlib.Core.List.{List, _++_}
-use Prim.Native.Nat.{ℕ, _+_, _^_, _≤_, _<_}
-use native.Mathlib.Omega.{arith}
-use lib.ListN.{length, drop, replicate}
-use denote.Ref.{now}
+use Rattle.fips197.proofs.Kit.{_≡_, refl, sym, _∙_, ap, subst, List, _++_, ℕ, _+_, _^_, _≤_, _<_, arith, length, drop, replicate, now, needs}
 use Rattle.printing.specs.Text.{decimal, over}
 use Rattle.printing.proofs.Decimals.{before, digits-first, digits-next, digits-done, tenth-low, tenth-less}
-use borrow.Author.Needs.{needs}
 use Rattle.printing.proofs.put_decimal.Statement.{statement}
 use Rattle.printing.proofs.put_decimal.Tie as tie
 

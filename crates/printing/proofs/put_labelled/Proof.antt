@@ -1,8 +1,7 @@
 -- Two texts, one behind the other (Putting).
+use Rattle.fips197.proofs.Kit.{now, needs}
 use Rattle.printing.specs.Text.{decimal}
 use Rattle.printing.proofs.Putting.{two₁, two₂, two}
-use denote.Ref.{now}
-use borrow.Author.Needs.{needs}
 use Rattle.printing.proofs.put_labelled.Statement.{statement}
 use Rattle.printing.proofs.put_labelled.Tie as tie
 

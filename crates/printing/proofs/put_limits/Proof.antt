@@ -1,13 +1,10 @@
 -- Four texts, one behind the other (Putting); the numbers are the family's.
+use Rattle.fips197.proofs.Kit.{ap, now, length, needs}
 use Rattle.printing.specs.Text.{ascii, labelled}
 use Rattle.printing.specs.Lines.{limitsLine}
-use mathlib.Core.Path.{ap}
 use Rattle.sizes.specs.Sizes.{familyOf}
 use Rattle.printing.proofs.Putting.{room-for, put-short, put-as, room-as, four₁, four₂, four₃, four₄, four}
-use denote.Ref.{now}
-use lib.ListN.{length}
 use Rattle.printing.proofs.Lengths.{limits-short}
-use borrow.Author.Needs.{needs}
 use Rattle.printing.proofs.put_limits.Statement.{statement}
 use Rattle.printing.proofs.put_limits.Tie as tie
 

@@ -1,11 +1,9 @@
 -- Three texts, one behind the other (Putting).
+use Rattle.fips197.proofs.Kit.{now, length, needs}
 use Rattle.printing.specs.Text.{ascii, labelled}
 use Rattle.printing.specs.Lines.{refusedLine}
 use Rattle.printing.proofs.Putting.{room-for, put-short, three₁, three₂, three₃, three}
-use denote.Ref.{now}
-use lib.ListN.{length}
 use Rattle.printing.proofs.Lengths.{refused-short}
-use borrow.Author.Needs.{needs}
 use Rattle.printing.proofs.put_refused.Statement.{statement}
 use Rattle.printing.proofs.put_refused.Tie as tie
 

@@ -1,11 +1,8 @@
 -- Three texts, one behind the other (Putting); they are short enough (Lengths).
-use native.Mathlib.Omega.{arith}
-use lib.ListN.{length}
-use denote.Ref.{now}
+use Rattle.fips197.proofs.Kit.{arith, length, now, needs}
 use Rattle.printing.specs.Lines.{limitsLine, answerLine, cardLines, reportLines}
 use Rattle.printing.proofs.Putting.{room-for, put-front, three}
 use Rattle.printing.proofs.Lengths.{report-short}
-use borrow.Author.Needs.{needs}
 use Rattle.printing.proofs.put_report.Statement.{statement}
 use Rattle.printing.proofs.put_report.Tie as tie
 

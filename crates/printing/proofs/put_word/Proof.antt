@@ -1,9 +1,8 @@
 -- Each arm puts its answer's word.
-use mathlib.Core.Path.{sym, ap}
+use Rattle.fips197.proofs.Kit.{sym, ap, needs}
 use Rattle.printing.specs.Text.{ascii}
 use Rattle.printing.specs.Lines.{answerWord}
 use Rattle.printing.proofs.Putting.{put-as, room-as}
-use borrow.Author.Needs.{needs}
 use Rattle.printing.proofs.put_word.Statement.{statement}
 use Rattle.printing.proofs.put_word.Tie as tie
 

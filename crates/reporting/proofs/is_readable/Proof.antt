@@ -1,13 +1,7 @@
 -- Each test settles it (Reading).
-use mathlib.Core.Path.{ap, _∙_}
-use Prim.Native.Nat.{ℕ, _+_}
-use native.Mathlib.Omega.{arith}
-use lib.Dec.{leb}
-use lib.ListN.{length}
-use denote.Ref.{now}
+use Rattle.fips197.proofs.Kit.{ap, _∙_, ℕ, _+_, arith, leb, length, now, needs}
 use Rattle.reporting.specs.Printed.{firstSize}
 use Rattle.reporting.proofs.Reading.{not-long, not-short, if-whole}
-use borrow.Author.Needs.{needs}
 use Rattle.reporting.proofs.is_readable.Statement.{statement}
 use Rattle.reporting.proofs.is_readable.Tie as tie
 

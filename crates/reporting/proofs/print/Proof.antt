@@ -1,19 +1,10 @@
 -- Unreadable, or the text of both messages (Texts); the parts of the input are those that the definitions name.
-use mathlib.Core.Path.{_≡_, sym, ap, _∙_}
-use mathlib.Core.Bool.{true}
-use mathlib.Core.List.{List}
-use Prim.Native.Nat.{ℕ}
-use native.Mathlib.Nat.{zero-add}
-use native.Mathlib.Omega.{arith}
-use borrow.Author.Tests.{not-true, not-false}
-use lib.ListN.{length}
-use denote.Ref.{now}
+use Rattle.fips197.proofs.Kit.{_≡_, sym, ap, _∙_, true, List, ℕ, zero-add, arith, not-true, not-false, length, now, needs}
 use Rattle.printing.specs.Text.{ascii, over}
 use Rattle.reporting.specs.Printed.{firstSize, readable, printed}
 use Rattle.printing.proofs.Putting.{over-front, put-as, put-front, put-counts}
 use Rattle.reporting.proofs.Reading.{readable-long, readable-whole}
 use Rattle.reporting.proofs.Texts.{printed-not, printed-so}
-use borrow.Author.Needs.{needs}
 use Rattle.reporting.proofs.print.Statement.{statement}
 use Rattle.reporting.proofs.print.Tie as tie
 

@@ -1,15 +1,9 @@
 -- Refused or done, what is put is the text (Texts).
-use mathlib.Core.Path.{refl, ap, _∙_}
-use mathlib.Core.List.{List}
-use Prim.Native.Nat.{ℕ}
-use native.Mathlib.Omega.{arith}
-use lib.ListN.{length}
-use denote.Ref.{now}
+use Rattle.fips197.proofs.Kit.{ap, _∙_, List, ℕ, length, now, needs}
 use Rattle.printing.specs.Text.{over}
 use Rattle.printing.proofs.Putting.{put-as, put-front}
 use Rattle.checks.proofs.Checking.{taggable}
 use Rattle.reporting.proofs.Texts.{tag-refused, tag-done, tag-file}
-use borrow.Author.Needs.{needs}
 use Rattle.reporting.proofs.put_both.Statement.{statement}
 use Rattle.reporting.proofs.put_both.Tie as tie
 

@@ -1,15 +1,9 @@
 -- Refused or done, what is put is the text (Texts).
-use mathlib.Core.Path.{_≡_, ap, _∙_}
-use mathlib.Core.List.{List}
+use Rattle.fips197.proofs.Kit.{_≡_, ap, _∙_, List, ℕ, arith, length, now, needs}
 use Rattle.printing.specs.Text.{over}
-use Prim.Native.Nat.{ℕ}
-use native.Mathlib.Omega.{arith}
-use lib.ListN.{length}
-use denote.Ref.{now}
 use Rattle.printing.proofs.Putting.{put-as, put-front}
 use Rattle.checks.proofs.Checking.{reportable}
 use Rattle.reporting.proofs.Texts.{report-refused, report-done}
-use borrow.Author.Needs.{needs}
 use Rattle.reporting.proofs.put_report.Statement.{statement}
 use Rattle.reporting.proofs.put_report.Tie as tie
 

@@ -1,8 +1,5 @@
 -- The rows of the message against those of the file (Comparing).
-use mathlib.Core.Path.{_≡_, ap, _∙_}
-use mathlib.Core.Bool.{true}
-use Prim.Native.Nat.{ℕ, _*_, _≤_}
-use native.Mathlib.Omega.{arith}
+use Rattle.fips197.proofs.Kit.{_≡_, ap, _∙_, true, ℕ, _*_, _≤_, arith, needs}
 use Rattle.sizes.specs.Sizes.{known, familyOf}
 use Rattle.sizes.proofs.Laws.{rows-few, tags-few}
 use Rattle.files.specs.declared.tagfile.Head.{Head}
@@ -10,7 +7,6 @@ use Rattle.files.specs.TagFile.{codeOf, headOf}
 use Rattle.checks.proofs.Checking.{file-code, file-count}
 use Rattle.tagging.proofs.Summing.{zero-sums}
 use Rattle.scheme.proofs.Comparing.{written-as, answer-as, named-as, rows-as}
-use borrow.Author.Needs.{needs}
 use Rattle.scheme.proofs.decode_files.Statement.{statement}
 use Rattle.scheme.proofs.decode_files.Tie as tie
 

@@ -1,15 +1,11 @@
 -- The tags deciphered one after another (Filing).
-use mathlib.Core.Path.{_≡_, refl, _∙_, ap}
-use Prim.Native.Nat.{ℕ}
-use native.Mathlib.Omega.{arith}
-use lib.ListN.{length, length-take, length-drop}
+use Rattle.fips197.proofs.Kit.{_≡_, refl, _∙_, ap, arith, length, length-take, length-drop, needs}
 use Rattle.sizes.specs.Sizes.{familyOf}
 use Rattle.files.specs.declared.tagfile.Head.{Head}
 use Rattle.files.specs.TagFile.{fileSize, codeOf, headOf}
 use Rattle.keyed.proofs.KeyedLaws.{sums-expanded}
 use Rattle.scheme.specs.Calls.{sumTagged}
 use Rattle.scheme.proofs.Filing.{sums-read}
-use borrow.Author.Needs.{needs}
 use Rattle.scheme.proofs.read_sums.Statement.{statement}
 use Rattle.scheme.proofs.read_sums.Tie as tie
 

@@ -1,13 +1,10 @@
 -- Refused, or decoded (Filing); and demand 3 (Claiming).
-use mathlib.Core.Path.{_∙_}
-use native.Mathlib.Omega.{arith}
-use lib.ListN.{length}
+use Rattle.fips197.proofs.Kit.{_∙_, arith, length, needs}
 use Rattle.cipher.proofs.Xor.{bytes-from}
 use Rattle.scheme.specs.Calls.{reportWrites, reportAnswer, reportNamed, reportRows}
 use Rattle.checks.proofs.Checking.{reportable}
 use Rattle.files.proofs.Passing.{given, kept}
 use Rattle.scheme.proofs.Claiming.{claim}
-use borrow.Author.Needs.{needs}
 use Rattle.scheme.proofs.report.Statement.{statement}
 use Rattle.scheme.proofs.report.Tie as tie
 

@@ -1,9 +1,8 @@
 -- Refused, or the file (Filing).
-use mathlib.Core.Path.{_∙_}
+use Rattle.fips197.proofs.Kit.{_∙_, needs}
 use Rattle.scheme.specs.Calls.{tagWrites}
 use Rattle.checks.proofs.Checking.{taggable}
 use Rattle.files.proofs.Passing.{given, kept}
-use borrow.Author.Needs.{needs}
 use Rattle.scheme.proofs.tag.Statement.{statement}
 use Rattle.scheme.proofs.tag.Tie as tie
 

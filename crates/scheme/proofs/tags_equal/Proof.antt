@@ -1,8 +1,5 @@
 -- The tags of the sums, compared with those of the file (Filing).
-use mathlib.Core.Path.{_≡_, refl, ap, ap₂, _∙_}
-use Prim.Native.Nat.{ℕ, _+_, _*_, _≤_}
-use native.Mathlib.Omega.{arith}
-use lib.ListN.{length}
+use Rattle.fips197.proofs.Kit.{_≡_, refl, ap, ap₂, _∙_, ℕ, _+_, _*_, _≤_, arith, length, needs}
 use Rattle.cipher.specs.Block.{same, zeros}
 use Rattle.sizes.specs.Sizes.{known, familyOf}
 use Rattle.sizes.proofs.Laws.{tags-few}
@@ -12,7 +9,6 @@ use Rattle.checks.proofs.Checking.{file-code}
 use Rattle.keyed.proofs.KeyedLaws.{tags-expanded}
 use Rattle.tagging.proofs.Summing.{zero-sums}
 use Rattle.scheme.proofs.Filing.{same-is, tags-long, tags-written, tags-there, tag-key-long}
-use borrow.Author.Needs.{needs}
 use Rattle.scheme.proofs.tags_equal.Statement.{statement}
 use Rattle.scheme.proofs.tags_equal.Tie as tie
 

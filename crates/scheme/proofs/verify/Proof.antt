@@ -1,9 +1,8 @@
 -- Refused, or the tags compared (Filing).
-use mathlib.Core.Path.{_∙_}
+use Rattle.fips197.proofs.Kit.{_∙_, needs}
 use Rattle.scheme.specs.Calls.{verifyYes}
 use Rattle.checks.proofs.Checking.{comparable}
 use Rattle.files.proofs.Passing.{given, kept}
-use borrow.Author.Needs.{needs}
 use Rattle.scheme.proofs.verify.Statement.{statement}
 use Rattle.scheme.proofs.verify.Tie as tie
 

@@ -1,9 +1,5 @@
 -- The sums of the tags, both hashes added, then the file of those sums (Filing).
-use mathlib.Core.Path.{_≡_, ap, _∙_}
-use mathlib.Core.Bool.{true}
-use Prim.Native.Nat.{ℕ, _*_, _≤_}
-use native.Mathlib.Omega.{arith}
-use lib.ListN.{length}
+use Rattle.fips197.proofs.Kit.{_≡_, ap, _∙_, true, ℕ, _*_, _≤_, arith, needs}
 use Rattle.sizes.specs.Sizes.{known, familyOf}
 use Rattle.sizes.proofs.Laws.{tags-few}
 use Rattle.files.specs.declared.tagfile.Head.{Head}
@@ -11,7 +7,6 @@ use Rattle.files.specs.TagFile.{fileSize, codeOf, countOf, headOf}
 use Rattle.checks.proofs.Checking.{file-code, file-count}
 use Rattle.tagging.proofs.Summing.{added-ready}
 use Rattle.scheme.proofs.Filing.{replaced-made}
-use borrow.Author.Needs.{needs}
 use Rattle.scheme.proofs.write_replaced.Statement.{statement}
 use Rattle.scheme.proofs.write_replaced.Tie as tie
 

@@ -1,13 +1,10 @@
 -- The sums of the tags, then the file of those sums (Filing).
-use mathlib.Core.Path.{_≡_, _∙_, ap, refl}
-use Prim.Native.Nat.{ℕ, _*_, _≤_}
-use native.Mathlib.Omega.{arith}
+use Rattle.fips197.proofs.Kit.{_*_, _≤_, arith, needs}
 use Rattle.sizes.specs.Sizes.{familyOf}
 use Rattle.sizes.proofs.Laws.{tags-few}
 use Rattle.files.specs.Message.{item}
 use Rattle.tagging.proofs.Summing.{zero-sums}
 use Rattle.scheme.proofs.Filing.{tag-file-made}
-use borrow.Author.Needs.{needs}
 use Rattle.scheme.proofs.write_tag_file.Statement.{statement}
 use Rattle.scheme.proofs.write_tag_file.Tie as tie
 

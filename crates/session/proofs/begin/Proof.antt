@@ -1,10 +1,8 @@
 -- The new session where the refusal's number is 0, else the closed one (Stepping).
-use mathlib.Core.Path.{_∙_}
-use native.Mathlib.Omega.{arith}
+use Rattle.fips197.proofs.Kit.{_∙_, arith, needs}
 use Rattle.session.specs.Session.{closed, beginRefusal, beginGives}
 use Rattle.files.proofs.Passing.{given, kept}
 use Rattle.session.proofs.Stepping.{begin-tells, begun-is}
-use borrow.Author.Needs.{needs}
 use Rattle.session.proofs.begin.Statement.{statement}
 use Rattle.session.proofs.begin.Tie as tie
 

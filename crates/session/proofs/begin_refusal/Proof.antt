@@ -1,7 +1,7 @@
 -- 1, 2 and 4 (Passing).
+use Rattle.fips197.proofs.Kit.{needs}
 use Rattle.files.proofs.Passing.{listed}
 use Rattle.session.specs.Session.{beginRefusal}
-use borrow.Author.Needs.{needs}
 use Rattle.session.proofs.begin_refusal.Statement.{statement}
 use Rattle.session.proofs.begin_refusal.Tie as tie
 

@@ -1,5 +1,5 @@
 -- As it is written.
-use mathlib.Core.Path.{refl}
+use Rattle.fips197.proofs.Kit.{refl}
 use Rattle.session.specs.Session.{closed}
 use Rattle.session.proofs.closed.Statement.{statement}
 use Rattle.session.proofs.closed.Tie as tie

@@ -1,6 +1,5 @@
 -- At most 64 cards are put.
-use Prim.Native.Nat.{_≤_, _-_}
-use borrow.Author.Needs.{needs}
+use Rattle.fips197.proofs.Kit.{_≤_, _-_, needs}
 use Rattle.shelves.proofs.by_session.Statement.{statement}
 use Rattle.shelves.proofs.by_session.Tie as tie
 

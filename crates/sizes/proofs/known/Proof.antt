@@ -1,5 +1,5 @@
 -- By its two tests.
-use borrow.Author.Tests.{le-leb, lt-leb}
+use Rattle.fips197.proofs.Kit.{le-leb, lt-leb}
 use Rattle.sizes.specs.Sizes.{known}
 use Rattle.sizes.proofs.known.Statement.{statement}
 use Rattle.sizes.proofs.known.Tie as tie

@@ -1,12 +1,8 @@
 -- Each turn adds the value to one row (Walking).
-use mathlib.Core.Path.{_≡_, refl}
-use Prim.Native.Nat.{_-_, _≤_}
-use native.Mathlib.Omega.{arith}
-use lib.ListN.{length}
+use Rattle.fips197.proofs.Kit.{_≡_, refl, _-_, _≤_, arith, length, needs}
 use Rattle.sizes.specs.Sizes.{familyOf}
 use Rattle.sizes.proofs.Laws.{row-list-few}
 use Rattle.sums.proofs.Walking.{Walked, walked-first, turn-fits, turn-next, turn-done, each-row}
-use borrow.Author.Needs.{needs}
 use Rattle.sums.proofs.add_to_rows.Statement.{statement}
 use Rattle.sums.proofs.add_to_rows.Tie as tie
 
@@ -20,9 +16,6 @@ few : (c : tie.After-rows-of Inv-loop μ-loop) → c .rows-of .result ≤ 17
 few c =
     let a = c .before .before .before .args in
     omega (arith, c .rows-of .ensures .1, row-list-few (a .code) (a .j))
-
-rows-of-requires : tie.Need-rows-of-requires Inv-loop μ-loop
-rows-of-requires c κs = search needs
 
 loop-holds : tie.Need-loop-holds Inv-loop μ-loop
 loop-holds c = walked-first _ _ _ _ _
@@ -40,12 +33,6 @@ add-to-sum-requires c κs =
     let d = l .before .before .before .before in
     turn-fits (familyOf (d .args .code)) (d .args .j) (each-row (familyOf (d .args .code) .rows)) (d .args .value) _ (l .loop .inv) (l .before .rows-of .ensures) (t .loop-test .taken) (d .pre) (refl)
 
-add-k : tie.Need-add-k Inv-loop μ-loop
-add-k c = search needs
-
-loop-less : tie.Need-loop-less Inv-loop μ-loop
-loop-less c = search needs
-
 loop-again : tie.Need-loop-again Inv-loop μ-loop
 loop-again c =
     let t = c .before .before .before .before in
@@ -54,9 +41,6 @@ loop-again c =
     let h : length (d .args .value) ≡ 16 = search needs in
     turn-next (familyOf (d .args .code)) (d .args .j) (each-row (familyOf (d .args .code) .rows)) (d .args .value) _ (l .loop .inv) (l .before .rows-of .ensures) (t .loop-test .taken) (d .pre) (refl) h
     (c .before .before .add-to-sum .ensures)
-
-same-length : tie.Need-same-length Inv-loop μ-loop
-same-length c = search needs
 
 returns : tie.Need-returns Inv-loop μ-loop
 returns c =
@@ -67,4 +51,5 @@ returns c =
 pub add-to-rows-spec : {M : Type 1} → statement M
 add-to-rows-spec =
     tie.close
-    (tie.spec Inv-loop μ-loop rows-of-requires loop-holds mul-i array-read-i add-to-sum-requires add-k loop-less loop-again same-length returns)
+    (tie.spec Inv-loop μ-loop (λ c κs. search needs) loop-holds mul-i array-read-i add-to-sum-requires (λ c. search needs)
+    (λ c. search needs) loop-again (λ c. search needs) returns)

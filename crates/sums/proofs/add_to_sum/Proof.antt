@@ -1,23 +1,15 @@
 -- One sum is written, or none.
-use mathlib.Core.Path.{_∙_}
-use native.Mathlib.Omega.{arith}
+use Rattle.fips197.proofs.Kit.{_∙_, arith, needs}
 use Rattle.cipher.specs.Block.{slot}
 use Rattle.sums.proofs.Walking.{added-none, added-some}
-use borrow.Author.Needs.{needs}
 use Rattle.sums.proofs.add_to_sum.Statement.{statement}
 use Rattle.sums.proofs.add_to_sum.Tie as tie
 
 sub-xor-at : tie.Need-sub-xor-at
 sub-xor-at c = omega (arith, c .before .if1 .taken)
 
-mul-xor-at : tie.Need-mul-xor-at
-mul-xor-at c = search needs
-
 xor-at-requires : tie.Need-xor-at-requires
 xor-at-requires c κs = omega (arith, c .before .if1 .taken)
-
-same-length : tie.Need-same-length
-same-length c = search needs
 
 returns : tie.Need-returns
 unfolding slot
@@ -29,5 +21,4 @@ returns-2 : tie.Need-returns-2
 returns-2 c = added-none (c .before .before .args .sums .now) (c .before .before .args .value) (c .before .before .args .t) (c .if1 .left)
 
 pub add-to-sum-spec : {M : Type 1} → statement M
-add-to-sum-spec =
-    tie.close (tie.spec sub-xor-at mul-xor-at xor-at-requires same-length returns returns-2)
+add-to-sum-spec = tie.close (tie.spec sub-xor-at (λ c. search needs) xor-at-requires (λ c. search needs) returns returns-2)

@@ -1,12 +1,8 @@
 -- Each turn adds the value to the tag of one row, where it has one (Walking).
-use mathlib.Core.Path.{_≡_}
-use Prim.Native.Nat.{_-_, _≤_}
-use native.Mathlib.Omega.{arith}
-use lib.ListN.{length}
+use Rattle.fips197.proofs.Kit.{_≡_, _-_, _≤_, arith, length, needs}
 use Rattle.sizes.specs.Sizes.{familyOf}
 use Rattle.sizes.proofs.Laws.{lawful, row-list-few}
 use Rattle.sums.proofs.Walking.{Walked, walked-first, turn-fits, turn-next, turn-done, each-tag}
-use borrow.Author.Needs.{needs}
 use Rattle.sums.proofs.add_to_tags.Statement.{statement}
 use Rattle.sums.proofs.add_to_tags.Tie as tie
 
@@ -21,9 +17,6 @@ few c =
     let a = c .before .before .before .args in
     omega (arith, c .rows-of .ensures .1, row-list-few (a .code) (a .j))
 
-rows-of-requires : tie.Need-rows-of-requires Inv-loop μ-loop
-rows-of-requires c κs = search needs
-
 loop-holds : tie.Need-loop-holds Inv-loop μ-loop
 loop-holds c = walked-first _ _ _ _ _
 
@@ -33,21 +26,12 @@ mul-i c = omega (arith, c .loop-test .taken, few (c .before .before))
 array-read-i : tie.Need-array-read-i Inv-loop μ-loop
 array-read-i c = omega (arith, c .loop-test .taken, few (c .before .before))
 
-tag-of-row-requires : tie.Need-tag-of-row-requires Inv-loop μ-loop
-tag-of-row-requires c κs = search needs
-
 add-to-sum-requires : tie.Need-add-to-sum-requires Inv-loop μ-loop
 add-to-sum-requires c κs =
     let t = c .before .before in
     let l = t .before in
     let d = l .before .before .before .before in
     turn-fits (familyOf (d .args .code)) (d .args .j) (each-tag (familyOf (d .args .code)) (lawful (d .args .code) (d .pre .0))) (d .args .value) _ (l .loop .inv) (l .before .rows-of .ensures) (t .loop-test .taken) (d .pre .1) (c .tag-of-row .ensures)
-
-add-k : tie.Need-add-k Inv-loop μ-loop
-add-k c = search needs
-
-loop-less : tie.Need-loop-less Inv-loop μ-loop
-loop-less c = search needs
 
 loop-again : tie.Need-loop-again Inv-loop μ-loop
 loop-again c =
@@ -58,9 +42,6 @@ loop-again c =
     turn-next (familyOf (d .args .code)) (d .args .j) (each-tag (familyOf (d .args .code)) (lawful (d .args .code) (d .pre .0))) (d .args .value) _ (l .loop .inv) (l .before .rows-of .ensures) (t .loop-test .taken) (d .pre .1) (c .before .before .before .tag-of-row .ensures) h
     (c .before .before .add-to-sum .ensures)
 
-same-length : tie.Need-same-length Inv-loop μ-loop
-same-length c = search needs
-
 returns : tie.Need-returns Inv-loop μ-loop
 returns c =
     let l = c .before in
@@ -70,4 +51,5 @@ returns c =
 pub add-to-tags-spec : {M : Type 1} → statement M
 add-to-tags-spec =
     tie.close
-    (tie.spec Inv-loop μ-loop rows-of-requires loop-holds mul-i array-read-i tag-of-row-requires add-to-sum-requires add-k loop-less loop-again same-length returns)
+    (tie.spec Inv-loop μ-loop (λ c κs. search needs) loop-holds mul-i array-read-i (λ c κs. search needs) add-to-sum-requires
+    (λ c. search needs) (λ c. search needs) loop-again (λ c. search needs) returns)

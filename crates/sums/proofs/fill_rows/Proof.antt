@@ -1,12 +1,8 @@
 -- Each turn fills one row from the tags and the rows before it (Walking).
-use mathlib.Core.Path.{_≡_, refl}
-use Prim.Native.Nat.{_-_, _≤_}
-use native.Mathlib.Omega.{arith}
-use lib.ListN.{length}
+use Rattle.fips197.proofs.Kit.{_≡_, refl, _-_, _≤_, arith, length, needs}
 use Rattle.sizes.specs.Sizes.{familyOf}
 use Rattle.sizes.proofs.Laws.{rows-few, lawful}
 use Rattle.sums.proofs.Walking.{Filled, fill-first, fill-next, fill-done}
-use borrow.Author.Needs.{needs}
 use Rattle.sums.proofs.fill_rows.Statement.{statement}
 use Rattle.sums.proofs.fill_rows.Tie as tie
 
@@ -16,14 +12,8 @@ Inv-loop code tags sums₀ n k₀ sums k = (k ≤ n) × Filled (familyOf code) t
 abbrev μ-loop : tie.MeasureT-loop
 μ-loop code tags sums₀ n k₀ sums k = n - k
 
-rows-requires : tie.Need-rows-requires Inv-loop μ-loop
-rows-requires c κs = search needs
-
 loop-holds : tie.Need-loop-holds Inv-loop μ-loop
 loop-holds c = (omega arith, fill-first _ _ _)
-
-add-i : tie.Need-add-i Inv-loop μ-loop
-add-i c = search needs
 
 row-from-requires : tie.Need-row-from-requires Inv-loop μ-loop
 row-from-requires c κs =
@@ -43,9 +33,6 @@ put-at-requires c κs =
     let d = l .before .before .before .before in
     omega (arith, l .before .rows .ensures, l .loop .inv .1 .size, d .pre .1 .1)
 
-loop-less : tie.Need-loop-less Inv-loop μ-loop
-loop-less c = search needs
-
 loop-again : tie.Need-loop-again Inv-loop μ-loop
 loop-again c =
     let r = c .before .before .before .before in
@@ -57,9 +44,6 @@ loop-again c =
           (omega (arith, l .before .rows .ensures)) (l .loop .inv .1) (d .pre .1 .1) h (r .row-from .ensures) (c .before .before .put-at .ensures),
     )
 
-same-length : tie.Need-same-length Inv-loop μ-loop
-same-length c = search needs
-
 returns : tie.Need-returns Inv-loop μ-loop
 returns c =
     let l = c .before in
@@ -69,16 +53,5 @@ returns c =
 pub fill-rows-spec : {M : Type 1} → statement M
 fill-rows-spec =
     tie.close
-    (tie.spec
-    Inv-loop
-    μ-loop
-    rows-requires
-    loop-holds
-    add-i
-    row-from-requires
-    mul-put-at
-    put-at-requires
-    loop-less
-    loop-again
-    same-length
-    returns)
+    (tie.spec Inv-loop μ-loop (λ c κs. search needs) loop-holds (λ c. search needs) row-from-requires mul-put-at put-at-requires
+    (λ c. search needs) loop-again (λ c. search needs) returns)

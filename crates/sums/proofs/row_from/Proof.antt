@@ -1,17 +1,12 @@
 -- By whether the row has a tag (Walking).
-use mathlib.Core.Path.{sym, _∙_}
-use native.Mathlib.Omega.{arith}
+use Rattle.fips197.proofs.Kit.{sym, _∙_, arith, needs}
 use Rattle.cipher.specs.Block.{slot}
 use Rattle.sizes.specs.Sizes.{familyOf}
 use Rattle.sizes.proofs.Laws.{tags-few, lawful}
 use Rattle.sums.specs.Adding.{sumIn}
 use Rattle.sums.proofs.Walking.{from-made, from-tag}
-use borrow.Author.Needs.{needs}
 use Rattle.sums.proofs.row_from.Statement.{statement}
 use Rattle.sums.proofs.row_from.Tie as tie
-
-tag-of-row-requires : tie.Need-tag-of-row-requires
-tag-of-row-requires c κs = search needs
 
 sum-made-requires : tie.Need-sum-made-requires
 sum-made-requires c κs =
@@ -49,11 +44,4 @@ returns-2 c =
 pub row-from-spec : {M : Type 1} → statement M
 row-from-spec =
     tie.close
-    (tie.spec
-    tag-of-row-requires
-    sum-made-requires
-    returns
-    sub-block-at
-    mul-block-at
-    block-at-requires
-    returns-2)
+    (tie.spec (λ c κs. search needs) sum-made-requires returns sub-block-at mul-block-at block-at-requires returns-2)

@@ -1,9 +1,5 @@
 -- From the last to the first, each turn adds one row (Walking).
-use mathlib.Core.Path.{_≡_, ap, _∙_}
-use mathlib.Core.List.{List}
-use Prim.Native.Nat.{ℕ, _-_, _≤_}
-use native.Mathlib.Omega.{arith}
-use lib.ListN.{length, drop}
+use Rattle.fips197.proofs.Kit.{_≡_, ap, _∙_, List, ℕ, _-_, _≤_, arith, length, drop, needs}
 use Rattle.cipher.specs.Block.{_⊕_, slot}
 use Rattle.incidence.specs.Sum.{sumOf}
 use Rattle.incidence.proofs.Sums.{earlier-at}
@@ -11,7 +7,6 @@ use Rattle.sizes.specs.Sizes.{familyOf}
 use Rattle.sizes.proofs.Laws.{rows-few, lawful}
 use Rattle.sums.specs.Adding.{sumIn}
 use Rattle.sums.proofs.Walking.{sum-none, sum-more}
-use borrow.Author.Needs.{needs}
 use Rattle.sums.proofs.sum_made.Statement.{statement}
 use Rattle.sums.proofs.sum_made.Tie as tie
 
@@ -21,20 +16,11 @@ Inv-loop code sums i r₀ k₀ r k = (k ≤ length (familyOf code .made i)) × (
 abbrev μ-loop : tie.MeasureT-loop
 μ-loop code sums i r₀ k₀ r k = k
 
-made-count-requires : tie.Need-made-count-requires Inv-loop μ-loop
-made-count-requires c κs = search needs
-
 loop-holds : tie.Need-loop-holds Inv-loop μ-loop
 loop-holds c =
     let d = c .before .before in
     let m = c .made-count .ensures in
     (omega arith, sum-none (sumIn (d .args .sums .now)) (familyOf (d .args .code) .made (d .args .i)) _ m)
-
-sub-k : tie.Need-sub-k Inv-loop μ-loop
-sub-k c = search needs
-
-made-at-requires : tie.Need-made-at-requires Inv-loop μ-loop
-made-at-requires c κs = search needs
 
 sub-block-at : tie.Need-sub-block-at Inv-loop μ-loop
 sub-block-at c =
@@ -60,12 +46,6 @@ block-at-requires c κs =
     let e = earlier-at (d .args .i) (F .made (d .args .i)) (lawful (d .args .code) (d .pre .0) .earlier (d .args .i) (d .pre .1 .0 .0) (d .pre .1 .0 .1) (d .pre .1 .0 .2)) (l .loop .k - 1) (omega arith) in
     omega (arith, e .0, e .1, c .made-at .ensures, d .pre .1 .0 .1, d .pre .1 .1)
 
-xor-requires : tie.Need-xor-requires Inv-loop μ-loop
-xor-requires c κs = search needs
-
-loop-less : tie.Need-loop-less Inv-loop μ-loop
-loop-less c = search needs
-
 loop-again : tie.Need-loop-again Inv-loop μ-loop
 unfolding sumIn slot
 loop-again c =
@@ -89,17 +69,5 @@ returns c =
 pub sum-made-spec : {M : Type 1} → statement M
 sum-made-spec =
     tie.close
-    (tie.spec
-    Inv-loop
-    μ-loop
-    made-count-requires
-    loop-holds
-    sub-k
-    made-at-requires
-    sub-block-at
-    mul-block-at
-    block-at-requires
-    xor-requires
-    loop-less
-    loop-again
-    returns)
+    (tie.spec Inv-loop μ-loop (λ c κs. search needs) loop-holds (λ c. search needs) (λ c κs. search needs) sub-block-at
+    mul-block-at block-at-requires (λ c κs. search needs) (λ c. search needs) loop-again returns)

@@ -1,7 +1,5 @@
 -- The words are those of the deciphering schedule.
-use mathlib.Core.Path.{_≡_}
-use lib.ListN.{length}
-use borrow.Author.Needs.{needs}
+use Rattle.fips197.proofs.Kit.{_≡_, length, needs}
 use Rattle.tables.proofs.decipher_with.Statement.{statement}
 use Rattle.tables.proofs.decipher_with.Tie as tie
 

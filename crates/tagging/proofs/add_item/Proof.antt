@@ -1,7 +1,7 @@
 -- The sums take the hash, whatever is handed over as a key made ready.
+use Rattle.fips197.proofs.Kit.{needs}
 use Rattle.sizes.specs.Sizes.{familyOf}
 use Rattle.tagging.proofs.Summing.{added-as}
-use borrow.Author.Needs.{needs}
 use Rattle.tagging.proofs.add_item.Statement.{statement}
 use Rattle.tagging.proofs.add_item.Tie as tie
 

@@ -1,7 +1,7 @@
 -- Three blocks, one after another.
+use Rattle.fips197.proofs.Kit.{needs}
 use Rattle.cipher.specs.Block.{slot}
 use Rattle.tagging.proofs.Summing.{keys-made}
-use borrow.Author.Needs.{needs}
 use Rattle.tagging.proofs.keys_in.Statement.{statement}
 use Rattle.tagging.proofs.keys_in.Tie as tie
 

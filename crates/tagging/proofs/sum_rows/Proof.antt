@@ -1,9 +1,5 @@
 -- Each turn adds one item (Summing).
-use mathlib.Core.Path.{_≡_, refl, ap, _∙_, sym}
-use mathlib.Core.List.{List}
-use Prim.Native.Nat.{ℕ, _-_, _≤_}
-use native.Mathlib.Omega.{arith}
-use lib.ListN.{length}
+use Rattle.fips197.proofs.Kit.{_≡_, refl, ap, _∙_, sym, _-_, _≤_, arith, length, needs}
 use Rattle.incidence.specs.Sum.{rowSum}
 use Rattle.sizes.specs.Sizes.{familyOf}
 use Rattle.files.specs.Message.{behind, item}
@@ -12,7 +8,6 @@ use Rattle.keyed.specs.Keyed.{itemHashBy}
 use Rattle.sums.specs.Adding.{Holds}
 use Rattle.tagging.specs.Tagging.{hashes}
 use Rattle.tagging.proofs.Summing.{summed-first, summed-next, summed-as, summed-ready, item-here, fits-here}
-use borrow.Author.Needs.{needs}
 use Rattle.tagging.proofs.sum_rows.Statement.{statement}
 use Rattle.tagging.proofs.sum_rows.Tie as tie
 

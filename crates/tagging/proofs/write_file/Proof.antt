@@ -1,17 +1,11 @@
 -- Header, tags and MAC, one behind the other (Writing).
-use mathlib.Core.Path.{_≡_}
-use mathlib.Core.List.{List, _++_}
-use Prim.Native.Nat.{ℕ, _+_, _-_, _*_, _≤_}
-use native.Mathlib.Omega.{arith}
-use lib.ListN.{length, take, drop, length-take, length-drop}
+use Rattle.fips197.proofs.Kit.{_≡_, List, _++_, ℕ, _+_, _-_, _*_, _≤_, arith, length, take, drop, length-take, length-drop, putMid, needs}
 use Rattle.cipher.specs.Aes.{encipher}
 use Rattle.cipher.proofs.Loop.{part-back}
 use Rattle.sizes.proofs.Laws.{code-byte, items-few, tags-few}
 use Rattle.keyed.specs.Keyed.{tagsBy}
 use Rattle.keyed.proofs.KeyedLaws.{tags-expanded}
 use Rattle.tagging.proofs.Writing.{file-size, tags-length, headed-length, back-length, file-written}
-use borrow.Rule.Slice.PartMut.{putMid}
-use borrow.Author.Needs.{needs}
 use Rattle.tagging.proofs.write_file.Statement.{statement}
 use Rattle.tagging.proofs.write_file.Tie as tie
 

@@ -1,8 +1,5 @@
 -- The index stays below the length, and a byte fits a u64.
-use Prim.Native.Nat.{_≤_, _-_}
-use native.Mathlib.Omega.{arith}
-use borrow.Author.Needs.{needs}
-use lib.ListN.{length}
+use Rattle.fips197.proofs.Kit.{_≤_, _-_, arith, needs, length}
 use Rattle.vectors.proofs.print_hex.Statement.{statement}
 use Rattle.vectors.proofs.print_hex.Tie as tie
 

@@ -1,15 +1,10 @@
 -- Each turn deciphers one block in its place; those before it stay, and those behind it are still as they were (Slots). The schedule is
 -- any whose deciphering schedule the words are.
-use mathlib.Core.Path.{_≡_, refl}
-use mathlib.Core.List.{List}
-use Prim.Native.Nat.{ℕ, _-_, _≤_}
-use native.Mathlib.Omega.{arith}
-use lib.ListN.{length}
+use Rattle.fips197.proofs.Kit.{_≡_, refl, List, ℕ, _-_, _≤_, arith, length, needs}
 use Rattle.tables.specs.RoundTables.{DecipherWords}
 use Rattle.cipher.specs.Block.{slot}
 use Rattle.cipher.specs.Aes.{invCipher}
 use Rattle.cipher.proofs.Slots.{Front, front-first, place-next, front-done}
-use borrow.Author.Needs.{needs}
 use Rattle.cipher.proofs.aes.decipher_blocks.Statement.{statement}
 use Rattle.cipher.proofs.aes.decipher_blocks.Tie as tie
 

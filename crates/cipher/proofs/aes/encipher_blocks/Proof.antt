@@ -1,12 +1,8 @@
 -- Each turn enciphers one block in its place; those before it stay, and those behind it are still as they were (Slots).
-use mathlib.Core.Path.{_≡_}
-use Prim.Native.Nat.{_-_, _≤_}
-use native.Mathlib.Omega.{arith}
-use lib.ListN.{length}
+use Rattle.fips197.proofs.Kit.{_≡_, _-_, _≤_, arith, length, needs}
 use Rattle.cipher.specs.Block.{slot}
 use Rattle.cipher.specs.Aes.{cipher}
 use Rattle.cipher.proofs.Slots.{Front, front-first, place-next, front-done}
-use borrow.Author.Needs.{needs}
 use Rattle.cipher.proofs.aes.encipher_blocks.Statement.{statement}
 use Rattle.cipher.proofs.aes.encipher_blocks.Tie as tie
 

@@ -1,6 +1,6 @@
 -- The table is the S-box.
+use Rattle.fips197.proofs.Kit.{needs}
 use Rattle.cipher.specs.Aes.{sbox}
-use borrow.Author.Needs.{needs}
 use Rattle.cipher.proofs.aes.sub_byte.Statement.{statement}
 use Rattle.cipher.proofs.aes.sub_byte.Tie as tie
 

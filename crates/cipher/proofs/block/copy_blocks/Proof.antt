@@ -1,9 +1,7 @@
 -- Each turn writes one block; those before it stay (Slots).
-use Prim.Native.Nat.{_-_, _≤_}
-use native.Mathlib.Omega.{arith}
+use Rattle.fips197.proofs.Kit.{_-_, _≤_, arith, needs}
 use Rattle.cipher.specs.Block.{slot}
 use Rattle.cipher.proofs.Slots.{Front, front-first, front-next, front-done}
-use borrow.Author.Needs.{needs}
 use Rattle.cipher.proofs.block.copy_blocks.Statement.{statement}
 use Rattle.cipher.proofs.block.copy_blocks.Tie as tie
 

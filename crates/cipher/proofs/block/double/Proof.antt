@@ -1,18 +1,10 @@
 -- Each turn writes one shifted byte; the last takes the mark (Doubling).
-use mathlib.Core.Path.{_≡_, refl, sym, ap, _∙_}
-use Prim.Native.Nat.{ℕ, _+_, _-_, _*_, _/_, _%_, _≤_, _<_}
-use native.Mathlib.Omega.{arith}
-use native.Mathlib.Numerals.{add-one}
-use lib.ListN.{length, getD}
-use lib.Bits.{bitXor}
+use Rattle.fips197.proofs.Kit.{_≡_, refl, sym, ap, _∙_, ℕ, _+_, _-_, _*_, _/_, _%_, _≤_, _<_, arith, add-one, length, getD, bitXor, Fits, w8, needs}
 use Rattle.cipher.proofs.Loop.{part, part-turn, part-done}
 use Rattle.cipher.specs.Block.{Block, zeros}
-use mir.Val.{Fits}
-use mir.Syntax.{w8}
 use Rattle.cipher.proofs.Xor.{bytes-from}
 use Rattle.cipher.specs.Double.{double}
 use Rattle.cipher.proofs.Doubling.{double-at, double-last, double-length, or-shifted-bit, masked-bit}
-use borrow.Author.Needs.{needs}
 use Rattle.cipher.proofs.block.double.Statement.{statement}
 use Rattle.cipher.proofs.block.double.Tie as tie
 

@@ -1,11 +1,7 @@
 -- What is left to compare decides: the bytes passed were equal.
-use mathlib.Core.Path.{_≡_, refl, sym, _∙_}
-use Prim.Native.Nat.{_-_, _≤_}
-use native.Mathlib.Omega.{arith}
-use lib.ListN.{length, drop}
+use Rattle.fips197.proofs.Kit.{_≡_, refl, sym, _∙_, _-_, _≤_, arith, length, drop, needs}
 use Rattle.cipher.specs.Block.{same}
 use Rattle.cipher.proofs.Xor.{same-more, same-stop, same-end}
-use borrow.Author.Needs.{needs}
 use Rattle.cipher.proofs.block.equal.Statement.{statement}
 use Rattle.cipher.proofs.block.equal.Tie as tie
 

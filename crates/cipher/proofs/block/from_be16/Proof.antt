@@ -1,7 +1,6 @@
 -- Both sides are 256 times the first and the second.
-use native.Mathlib.Omega.{arith}
+use Rattle.fips197.proofs.Kit.{arith, needs}
 use Rattle.cipher.specs.Number.{numberOf, number}
-use borrow.Author.Needs.{needs}
 use Rattle.cipher.proofs.block.from_be16.Statement.{statement}
 use Rattle.cipher.proofs.block.from_be16.Tie as tie
 

@@ -1,11 +1,6 @@
 -- Each turn writes one byte; what is behind stays (Loop).
-use mathlib.Core.Path.{_≡_, refl, _∙_}
-use Prim.Native.Nat.{_-_, _≤_}
-use native.Mathlib.Omega.{arith}
-use lib.ListN.{length}
+use Rattle.fips197.proofs.Kit.{_≡_, refl, _∙_, _-_, _≤_, arith, length, length-set, needs}
 use Rattle.cipher.proofs.Loop.{part, part-front, part-turn}
-use lib.ListN.{length-set}
-use borrow.Author.Needs.{needs}
 use Rattle.cipher.proofs.block.put.Statement.{statement}
 use Rattle.cipher.proofs.block.put.Tie as tie
 

@@ -1,6 +1,6 @@
 -- The part from `at` on comes back with the block in front (Loop).
+use Rattle.fips197.proofs.Kit.{needs}
 use Rattle.cipher.proofs.Loop.{part-back}
-use borrow.Author.Needs.{needs}
 use Rattle.cipher.proofs.block.put_at.Statement.{statement}
 use Rattle.cipher.proofs.block.put_at.Tie as tie
 

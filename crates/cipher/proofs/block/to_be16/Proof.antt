@@ -1,10 +1,6 @@
 -- The bytes of a number below 65,536.
-use mathlib.Core.Path.{_≡_, ap}
-use mathlib.Core.List.{[], _∷_}
-use Prim.Native.Nat.{ℕ, _/_, _%_}
-use native.Mathlib.Omega.{arith}
+use Rattle.fips197.proofs.Kit.{_≡_, ap, [], _∷_, ℕ, _/_, _%_, arith, needs}
 use Rattle.cipher.specs.Number.{bigEndian}
-use borrow.Author.Needs.{needs}
 use Rattle.cipher.proofs.block.to_be16.Statement.{statement}
 use Rattle.cipher.proofs.block.to_be16.Tie as tie
 

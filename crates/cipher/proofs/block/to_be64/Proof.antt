@@ -1,6 +1,6 @@
 -- The bytes of a number of 64 bits (Numbers).
+use Rattle.fips197.proofs.Kit.{needs}
 use Rattle.cipher.proofs.Numbers.{bigEndian-8}
-use borrow.Author.Needs.{needs}
 use Rattle.cipher.proofs.block.to_be64.Statement.{statement}
 use Rattle.cipher.proofs.block.to_be64.Tie as tie
 

@@ -1,13 +1,8 @@
 -- Each turn writes one byte of the XOR (Loop).
-use mathlib.Core.Path.{_≡_, refl, sym, ap, _∙_}
-use Prim.Native.Nat.{ℕ, _-_, _≤_}
-use native.Mathlib.Omega.{arith}
-use lib.ListN.{length, getD}
+use Rattle.fips197.proofs.Kit.{_≡_, refl, sym, ap, _∙_, ℕ, _-_, _≤_, arith, length, getD, bitXor, needs}
 use Rattle.cipher.proofs.Loop.{part, part-turn, part-read, part-done}
-use lib.Bits.{bitXor}
 use Rattle.cipher.specs.Block.{_⊕_}
 use Rattle.cipher.proofs.Xor.{⊕-length, ⊕-at}
-use borrow.Author.Needs.{needs}
 use Rattle.cipher.proofs.block.xor.Statement.{statement}
 use Rattle.cipher.proofs.block.xor.Tie as tie
 

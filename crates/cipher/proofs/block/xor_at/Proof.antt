@@ -1,10 +1,6 @@
 -- Read, XORed and written back.
-use mathlib.Core.Path.{ap, _∙_}
-use mathlib.Core.List.{List, _++_}
-use Prim.Native.Nat.{ℕ, _+_}
-use lib.ListN.{take, drop}
+use Rattle.fips197.proofs.Kit.{ap, _∙_, List, _++_, ℕ, _+_, take, drop, needs}
 use Rattle.cipher.specs.Block.{_⊕_}
-use borrow.Author.Needs.{needs}
 use Rattle.cipher.proofs.block.xor_at.Statement.{statement}
 use Rattle.cipher.proofs.block.xor_at.Tie as tie
 

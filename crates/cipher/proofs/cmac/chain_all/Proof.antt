@@ -1,14 +1,9 @@
 -- Each turn takes a block of the second part into the chain (Chain).
-use mathlib.Core.Path.{_≡_, refl, ap, _∙_}
-use mathlib.Core.List.{List, _++_}
-use Prim.Native.Nat.{ℕ, _+_, _-_, _/_, _%_, _≤_, _<_}
-use native.Mathlib.Omega.{arith}
-use lib.ListN.{length}
+use Rattle.fips197.proofs.Kit.{_≡_, refl, ap, _∙_, List, _++_, ℕ, _+_, _-_, _/_, _%_, _≤_, _<_, arith, length, needs}
 use Rattle.cipher.specs.Block.{_⊕_}
 use Rattle.cipher.specs.Aes.{cipher}
 use Rattle.cipher.specs.Cmac.{chain}
 use Rattle.cipher.proofs.Chain.{chain-more, in-second}
-use borrow.Author.Needs.{needs}
 use Rattle.cipher.proofs.cmac.chain_all.Statement.{statement}
 use Rattle.cipher.proofs.cmac.chain_all.Tie as tie
 

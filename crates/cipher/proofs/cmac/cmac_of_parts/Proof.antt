@@ -1,8 +1,6 @@
 -- The key made ready gives what the key gives (Laws).
-use mathlib.Core.Path.{_∙_}
-use mathlib.Core.List.{_++_}
+use Rattle.fips197.proofs.Kit.{_∙_, _++_, needs}
 use Rattle.cipher.proofs.Laws.{mac-ready}
-use borrow.Author.Needs.{needs}
 use Rattle.cipher.proofs.cmac.cmac_of_parts.Statement.{statement}
 use Rattle.cipher.proofs.cmac.cmac_of_parts.Tie as tie
 

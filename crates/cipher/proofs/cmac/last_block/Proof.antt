@@ -1,12 +1,7 @@
 -- By its length (Chain).
-use mathlib.Core.Path.{_≡_, ap, _∙_}
-use mathlib.Core.List.{List, _++_}
-use Prim.Native.Nat.{ℕ, _+_}
-use native.Mathlib.Omega.{arith}
-use lib.ListN.{length, length-append}
+use Rattle.fips197.proofs.Kit.{_≡_, ap, _∙_, List, _++_, ℕ, _+_, arith, length, length-append, needs}
 use Rattle.cipher.specs.Block.{_⊕_}
 use Rattle.cipher.proofs.Chain.{last-whole, last-padded}
-use borrow.Author.Needs.{needs}
 use Rattle.cipher.proofs.cmac.last_block.Statement.{statement}
 use Rattle.cipher.proofs.cmac.last_block.Tie as tie
 

@@ -1,14 +1,9 @@
 -- The chain over all blocks but the last, and then the last (Chain).
-use mathlib.Core.Path.{_≡_, ap, _∙_}
-use mathlib.Core.List.{List, _++_}
-use Prim.Native.Nat.{ℕ, _+_}
-use native.Mathlib.Omega.{arith}
-use lib.ListN.{length, length-append}
+use Rattle.fips197.proofs.Kit.{_≡_, ap, _∙_, List, _++_, ℕ, _+_, arith, length, length-append, needs}
 use Rattle.cipher.specs.Block.{_⊕_}
 use Rattle.cipher.specs.Aes.{cipher}
 use Rattle.cipher.proofs.Chain.{mac-last}
 use Rattle.cipher.specs.Cmac.{macWith}
-use borrow.Author.Needs.{needs}
 use Rattle.cipher.proofs.cmac.mac_of_parts.Statement.{statement}
 use Rattle.cipher.proofs.cmac.mac_of_parts.Tie as tie
 

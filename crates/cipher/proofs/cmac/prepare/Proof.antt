@@ -1,10 +1,9 @@
 -- The subkeys are doublings of the enciphered zero block.
-use mathlib.Core.Path.{ap, _∙_}
+use Rattle.fips197.proofs.Kit.{ap, _∙_, needs}
 use Rattle.cipher.specs.Cmac.{subkey1, subkey2, ready}
 use Rattle.cipher.proofs.Laws.{encipher-is}
 use Rattle.cipher.specs.Double.{double}
 use Rattle.cipher.specs.Block.{zeros}
-use borrow.Author.Needs.{needs}
 use Rattle.cipher.proofs.cmac.prepare.Statement.{statement}
 use Rattle.cipher.proofs.cmac.prepare.Tie as tie
 

@@ -1,13 +1,6 @@
 -- Each turn reads one byte of the two parts (Loop).
-use mathlib.Core.Path.{_≡_, refl, sym, _∙_}
-use mathlib.Core.List.{_++_}
-use Prim.Native.Nat.{_-_, _≤_}
-use native.Mathlib.Omega.{arith}
-use lib.ListN.{length, take, drop}
+use Rattle.fips197.proofs.Kit.{_≡_, refl, sym, _∙_, _++_, _-_, _≤_, arith, length, take, drop, length-append, length-drop, length-take, getD-take, getD-drop, needs}
 use Rattle.cipher.proofs.Loop.{part, part-turn, part-done}
-use lib.ListN.{length-append, length-drop, length-take}
-use lib.Seq.{getD-take, getD-drop}
-use borrow.Author.Needs.{needs}
 use Rattle.cipher.proofs.parts.across.Statement.{statement}
 use Rattle.cipher.proofs.parts.across.Tie as tie
 

@@ -1,7 +1,6 @@
 -- In the second part, or from the first (Chain).
-use mathlib.Core.Path.{_∙_}
+use Rattle.fips197.proofs.Kit.{_∙_, needs}
 use Rattle.cipher.proofs.Chain.{in-second}
-use borrow.Author.Needs.{needs}
 use Rattle.cipher.proofs.parts.block.Statement.{statement}
 use Rattle.cipher.proofs.parts.block.Tie as tie
 

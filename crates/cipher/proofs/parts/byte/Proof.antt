@@ -1,6 +1,6 @@
 -- Before the seam it is in the first part, from there on in the second (Chain).
+use Rattle.fips197.proofs.Kit.{needs}
 use Rattle.cipher.proofs.Chain.{byte-first, byte-second}
-use borrow.Author.Needs.{needs}
 use Rattle.cipher.proofs.parts.byte.Statement.{statement}
 use Rattle.cipher.proofs.parts.byte.Tie as tie
 

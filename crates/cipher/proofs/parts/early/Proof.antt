@@ -1,8 +1,6 @@
 -- In the first part, or across the seam (Chain).
-use mathlib.Core.Path.{_∙_}
-use native.Mathlib.Omega.{arith}
+use Rattle.fips197.proofs.Kit.{_∙_, arith, needs}
 use Rattle.cipher.proofs.Chain.{in-first}
-use borrow.Author.Needs.{needs}
 use Rattle.cipher.proofs.parts.early.Statement.{statement}
 use Rattle.cipher.proofs.parts.early.Tie as tie
 

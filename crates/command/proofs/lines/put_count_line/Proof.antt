@@ -1,10 +1,9 @@
 -- Two texts, one behind the other, in room for 20 digits (Putting, Lengths).
-use denote.Ref.{now}
+use Rattle.fips197.proofs.Kit.{now, needs}
 use Rattle.printing.specs.Text.{ascii, labelled}
 use Rattle.printing.proofs.Putting.{room-for, put-short, two₁, two₂, two}
 use Rattle.command.specs.Said.{countLine}
 use Rattle.command.proofs.Lengths.{count-short}
-use borrow.Author.Needs.{needs}
 use Rattle.command.proofs.lines.put_count_line.Statement.{statement}
 use Rattle.command.proofs.lines.put_count_line.Tie as tie
 

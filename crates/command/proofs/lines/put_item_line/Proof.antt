@@ -1,10 +1,9 @@
 -- Three texts, one behind the other, in room for 20 digits each (Putting, Lengths).
-use denote.Ref.{now}
+use Rattle.fips197.proofs.Kit.{now, needs}
 use Rattle.printing.specs.Text.{ascii, labelled}
 use Rattle.printing.proofs.Putting.{room-for, put-short, three₁, three₂, three₃, three}
 use Rattle.command.specs.Said.{itemLine}
 use Rattle.command.proofs.Lengths.{item-short}
-use borrow.Author.Needs.{needs}
 use Rattle.command.proofs.lines.put_item_line.Statement.{statement}
 use Rattle.command.proofs.lines.put_item_line.Tie as tie
 

@@ -1,10 +1,9 @@
 -- Three texts, one behind the other, in room for 20 digits (Putting, Lengths).
-use denote.Ref.{now}
+use Rattle.fips197.proofs.Kit.{now, needs}
 use Rattle.printing.specs.Text.{ascii, labelled}
 use Rattle.printing.proofs.Putting.{put-front, three₁, three₂, three₃, three}
 use Rattle.command.specs.Said.{temporaryName}
 use Rattle.command.proofs.Lengths.{room-front, short-front, temporary-short}
-use borrow.Author.Needs.{needs}
 use Rattle.command.proofs.lines.put_temporary.Statement.{statement}
 use Rattle.command.proofs.lines.put_temporary.Tie as tie
 

@@ -1,6 +1,6 @@
 -- Each test settles it (Reading).
+use Rattle.fips197.proofs.Kit.{needs}
 use Rattle.command.proofs.Reading.{low, high, between}
-use borrow.Author.Needs.{needs}
 use Rattle.command.proofs.numbers.fits.Statement.{statement}
 use Rattle.command.proofs.numbers.fits.Tie as tie
 

@@ -1,9 +1,6 @@
 -- What is read and what is left (Reading).
-use Prim.Native.Nat.{_-_}
-use lib.ListN.{length}
-use borrow.Author.Tests.{not-true, not-false}
+use Rattle.fips197.proofs.Kit.{_-_, length, not-true, not-false, needs}
 use Rattle.command.proofs.Reading.{Reading, reading-none, reading-more, reading-stops, reading-done, digit-low, digit-below}
-use borrow.Author.Needs.{needs}
 use Rattle.command.proofs.numbers.number_in.Statement.{statement}
 use Rattle.command.proofs.numbers.number_in.Tie as tie
 

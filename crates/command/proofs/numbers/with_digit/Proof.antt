@@ -1,6 +1,6 @@
 -- The contract says that it fits.
+use Rattle.fips197.proofs.Kit.{needs}
 use Rattle.command.specs.Numbers.{withDigit}
-use borrow.Author.Needs.{needs}
 use Rattle.command.proofs.numbers.with_digit.Statement.{statement}
 use Rattle.command.proofs.numbers.with_digit.Tie as tie
 

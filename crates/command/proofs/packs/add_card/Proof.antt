@@ -1,7 +1,6 @@
 -- What Append says of the card, at its place (Placing).
-use native.Mathlib.Omega.{arith}
+use Rattle.fips197.proofs.Kit.{arith, needs}
 use Rattle.command.proofs.Placing.{placed-none, said-so, size-refused, size-more, size-inside, size-small}
-use borrow.Author.Needs.{needs}
 use Rattle.command.proofs.packs.add_card.Statement.{statement}
 use Rattle.command.proofs.packs.add_card.Tie as tie
 

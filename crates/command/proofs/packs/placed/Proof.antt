@@ -1,6 +1,6 @@
 -- Each test settles it (Placing).
+use Rattle.fips197.proofs.Kit.{needs}
 use Rattle.command.proofs.Placing.{placed-none, placed-long, placed-other}
-use borrow.Author.Needs.{needs}
 use Rattle.command.proofs.packs.placed.Statement.{statement}
 use Rattle.command.proofs.packs.placed.Tie as tie
 

@@ -1,11 +1,8 @@
 -- As `unless` has it.
-use mathlib.Core.Path.{ap, _∙_}
-use mathlib.Core.Bool.{Bool}
-use Prim.Native.Nat.{ℕ}
+use Rattle.fips197.proofs.Kit.{ap, _∙_, Bool, ℕ, needs}
 use Rattle.files.specs.Refusals.{unless}
 use Rattle.incidence.specs.Count.{inside}
 use Rattle.files.specs.Arguments.{refuse4}
-use borrow.Author.Needs.{needs}
 use Rattle.files.proofs.arguments.check_count.Statement.{statement}
 use Rattle.files.proofs.arguments.check_count.Tie as tie
 

@@ -1,6 +1,6 @@
 -- As `unless` has it.
+use Rattle.fips197.proofs.Kit.{needs}
 use Rattle.files.specs.Arguments.{refuse9}
-use borrow.Author.Needs.{needs}
 use Rattle.files.proofs.arguments.check_item.Statement.{statement}
 use Rattle.files.proofs.arguments.check_item.Tie as tie
 

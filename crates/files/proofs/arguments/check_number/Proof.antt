@@ -1,9 +1,7 @@
 -- As `unless` has it.
-use mathlib.Core.Path.{ap, _∙_}
-use mathlib.Core.Bool.{Bool}
+use Rattle.fips197.proofs.Kit.{ap, _∙_, Bool, needs}
 use Rattle.files.specs.Refusals.{unless}
 use Rattle.files.specs.Message.{refuse8}
-use borrow.Author.Needs.{needs}
 use Rattle.files.proofs.arguments.check_number.Statement.{statement}
 use Rattle.files.proofs.arguments.check_number.Tie as tie
 

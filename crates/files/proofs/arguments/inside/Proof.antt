@@ -1,5 +1,5 @@
 -- By its two tests.
-use borrow.Author.Tests.{le-leb, lt-leb}
+use Rattle.fips197.proofs.Kit.{le-leb, lt-leb}
 use Rattle.files.proofs.arguments.inside.Statement.{statement}
 use Rattle.files.proofs.arguments.inside.Tie as tie
 

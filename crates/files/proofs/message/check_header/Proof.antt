@@ -1,8 +1,7 @@
 -- Each test settles it (Messages).
-use native.Mathlib.Omega.{arith}
+use Rattle.fips197.proofs.Kit.{arith, needs}
 use Rattle.files.specs.Message.{prefix}
 use Rattle.files.proofs.Messages.{header-short, header-long, header-right, header-wrong}
-use borrow.Author.Needs.{needs}
 use Rattle.files.proofs.message.check_header.Statement.{statement}
 use Rattle.files.proofs.message.check_header.Tie as tie
 

@@ -1,12 +1,8 @@
 -- Behind the items passed, which all fit (Messages).
-use mathlib.Core.Path.{_≡_, sym, ap, _∙_}
-use Prim.Native.Nat.{_-_, _≤_}
-use native.Mathlib.Omega.{arith}
-use lib.ListN.{length}
-use Rattle.files.specs.Message.{number16, itemCount, behind, refuseItems}
+use Rattle.fips197.proofs.Kit.{_≡_, sym, ap, _∙_, _-_, _≤_, arith, length, needs}
+use Rattle.files.specs.Message.{behind, refuseItems}
 use Rattle.files.proofs.Messages.{headed, fits-so, behind-more, items-more, items-stop, items-whole, items-over}
 use Rattle.files.specs.Refusals.{none, first}
-use borrow.Author.Needs.{needs}
 use Rattle.files.proofs.message.check_items.Statement.{statement}
 use Rattle.files.proofs.message.check_items.Tie as tie
 

@@ -1,9 +1,7 @@
 -- The item that Fetch does not refuse, or the empty part at the front (Messages).
-use mathlib.Core.Path.{refl}
-use native.Mathlib.Omega.{arith}
+use Rattle.fips197.proofs.Kit.{refl, arith, needs}
 use Rattle.files.specs.Message.{number16}
 use Rattle.files.proofs.Messages.{fetched, unfetched, fetchable}
-use borrow.Author.Needs.{needs}
 use Rattle.files.proofs.message.fetch.Statement.{statement}
 use Rattle.files.proofs.message.fetch.Tie as tie
 

@@ -1,7 +1,7 @@
 -- The first of 3, 5 and 8 that applies (Passing).
+use Rattle.fips197.proofs.Kit.{needs}
 use Rattle.files.specs.Message.{fetchRefusal}
 use Rattle.files.proofs.Passing.{number-of, stop, listed}
-use borrow.Author.Needs.{needs}
 use Rattle.files.proofs.message.fetch_refusal.Statement.{statement}
 use Rattle.files.proofs.message.fetch_refusal.Tie as tie
 

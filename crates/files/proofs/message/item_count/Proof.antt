@@ -1,6 +1,6 @@
 -- The number behind letters and version.
+use Rattle.fips197.proofs.Kit.{needs}
 use Rattle.files.specs.Message.{itemCount}
-use borrow.Author.Needs.{needs}
 use Rattle.files.proofs.message.item_count.Statement.{statement}
 use Rattle.files.proofs.message.item_count.Tie as tie
 

@@ -1,10 +1,8 @@
 -- The two bytes at the place (Messages).
-use mathlib.Core.Path.{ap, _∙_}
-use native.Mathlib.Omega.{arith}
+use Rattle.fips197.proofs.Kit.{ap, _∙_, arith, needs}
 use Rattle.files.specs.Message.{number16}
 use Rattle.files.proofs.Messages.{two-at}
 use Rattle.cipher.specs.Number.{number}
-use borrow.Author.Needs.{needs}
 use Rattle.files.proofs.message.number16.Statement.{statement}
 use Rattle.files.proofs.message.number16.Tie as tie
 

@@ -1,14 +1,9 @@
 -- Behind the items passed, which all fit (Messages).
-use mathlib.Core.Path.{_≡_, sym, ap, _∙_}
-use Prim.Native.Nat.{ℕ, _+_, _-_, _≤_}
-use native.Mathlib.Omega.{arith}
-use lib.ListN.{length}
-use mathlib.Core.Path.{subst}
+use Rattle.fips197.proofs.Kit.{_≡_, sym, ap, _∙_, ℕ, _+_, _-_, _≤_, arith, length, subst, needs}
 use Rattle.files.specs.Message.{number16, behind}
 use Rattle.files.proofs.Messages.{behind-low, behind-more, item-fits}
 use Rattle.files.specs.Refusals.{first}
 use Rattle.files.specs.declared.Refusal.{Refusal}
-use borrow.Author.Needs.{needs}
 use Rattle.files.proofs.message.seek.Statement.{statement}
 use Rattle.files.proofs.message.seek.Tie as tie
 

@@ -1,6 +1,6 @@
 -- The first ones are a run.
+use Rattle.fips197.proofs.Kit.{needs}
 use Rattle.files.proofs.Passing.{run2, listed}
-use borrow.Author.Needs.{needs}
 use Rattle.files.proofs.refusals.first4.Statement.{statement}
 use Rattle.files.proofs.refusals.first4.Tie as tie
 

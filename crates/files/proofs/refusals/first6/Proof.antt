@@ -1,6 +1,6 @@
 -- The first ones are a run.
+use Rattle.fips197.proofs.Kit.{needs}
 use Rattle.files.proofs.Passing.{run3, listed}
-use borrow.Author.Needs.{needs}
 use Rattle.files.proofs.refusals.first6.Statement.{statement}
 use Rattle.files.proofs.refusals.first6.Tie as tie
 

@@ -1,5 +1,5 @@
 -- By the test.
-use mathlib.Core.Path.{sym}
+use Rattle.fips197.proofs.Kit.{sym}
 use Rattle.files.proofs.Passing.{unless-true, unless-false}
 use Rattle.files.proofs.refusals.unless.Statement.{statement}
 use Rattle.files.proofs.refusals.unless.Tie as tie

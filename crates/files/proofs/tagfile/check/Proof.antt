@@ -1,10 +1,7 @@
 -- Length and letters by themselves, the rest together (TagFiles).
-use mathlib.Core.Path.{_∙_}
-use native.Mathlib.Omega.{arith}
+use Rattle.fips197.proofs.Kit.{_∙_, arith, not-true, not-false, needs}
 use Rattle.files.specs.TagFile.{tagPrefix}
-use borrow.Author.Tests.{not-true, not-false}
 use Rattle.files.proofs.TagFiles.{tag-short, tag-letters, tag-rest}
-use borrow.Author.Needs.{needs}
 use Rattle.files.proofs.tagfile.check.Statement.{statement}
 use Rattle.files.proofs.tagfile.check.Tie as tie
 

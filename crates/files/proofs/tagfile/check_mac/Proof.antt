@@ -1,11 +1,7 @@
 -- The last 16 bytes against CMAC of those before (TagFiles).
-use mathlib.Core.Path.{refl, _∙_}
-use Prim.Native.Nat.{_≤_}
-use native.Mathlib.Omega.{arith}
-use lib.ListN.{length}
+use Rattle.fips197.proofs.Kit.{refl, _∙_, _≤_, arith, length, needs}
 use Rattle.files.proofs.Accepted.{formed}
 use Rattle.files.proofs.TagFiles.{mac-is}
-use borrow.Author.Needs.{needs}
 use Rattle.files.proofs.tagfile.check_mac.Statement.{statement}
 use Rattle.files.proofs.tagfile.check_mac.Tie as tie
 

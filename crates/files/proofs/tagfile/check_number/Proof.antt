@@ -1,12 +1,9 @@
 -- The count stands in a file that 6 does not refuse.
-use mathlib.Core.Path.{ap, _∙_}
-use Prim.Native.Nat.{ℕ}
-use native.Mathlib.Omega.{arith}
+use Rattle.fips197.proofs.Kit.{ap, _∙_, arith, needs}
 use Rattle.files.specs.TagFile.{headOf}
 use Rattle.files.specs.declared.tagfile.Head.{Head}
 use Rattle.files.specs.Message.{refuse8}
 use Rattle.files.proofs.Accepted.{formed}
-use borrow.Author.Needs.{needs}
 use Rattle.files.proofs.tagfile.check_number.Statement.{statement}
 use Rattle.files.proofs.tagfile.check_number.Tie as tie
 

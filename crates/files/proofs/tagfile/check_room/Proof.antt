@@ -1,9 +1,7 @@
 -- A file that 6 does not refuse has the length of its size code.
-use mathlib.Core.Path.{ap, _∙_}
-use Prim.Native.Nat.{ℕ}
+use Rattle.fips197.proofs.Kit.{ap, _∙_, ℕ, needs}
 use Rattle.files.specs.Arguments.{refuse7}
 use Rattle.files.proofs.Accepted.{formed}
-use borrow.Author.Needs.{needs}
 use Rattle.files.proofs.tagfile.check_room.Statement.{statement}
 use Rattle.files.proofs.tagfile.check_room.Tie as tie
 

@@ -1,6 +1,6 @@
 -- Each test settles it (TagFiles).
+use Rattle.fips197.proofs.Kit.{needs}
 use Rattle.files.proofs.TagFiles.{fits-known, fits-none, fits-unknown}
-use borrow.Author.Needs.{needs}
 use Rattle.files.proofs.tagfile.count_fits.Statement.{statement}
 use Rattle.files.proofs.tagfile.count_fits.Tie as tie
 

@@ -1,9 +1,7 @@
 -- Eight bytes, the tags and the MAC.
-use Prim.Native.Nat.{_≤_}
-use native.Mathlib.Omega.{arith}
+use Rattle.fips197.proofs.Kit.{_≤_, arith, needs}
 use Rattle.sizes.proofs.Laws.{tags-few}
 use Rattle.files.specs.TagFile.{fileSize}
-use borrow.Author.Needs.{needs}
 use Rattle.files.proofs.tagfile.file_size.Statement.{statement}
 use Rattle.files.proofs.tagfile.file_size.Tie as tie
 

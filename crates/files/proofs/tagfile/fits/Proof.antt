@@ -1,13 +1,8 @@
 -- Both tests, or the first alone (TagFiles).
-use mathlib.Core.Path.{sym, ap, _∙_}
-use mathlib.Core.Bool.{Bool, _&&_}
-use Prim.Native.Nat.{ℕ}
-use lib.Dec.{eqb}
-use lib.ListN.{length}
+use Rattle.fips197.proofs.Kit.{sym, ap, _∙_, eqb, length, needs}
 use Rattle.files.specs.declared.tagfile.Head.{Head}
 use Rattle.files.specs.TagFile.{headOf, countFits, fileSize}
 use Rattle.files.proofs.TagFiles.{both-left, both-right}
-use borrow.Author.Needs.{needs}
 use Rattle.files.proofs.tagfile.fits.Statement.{statement}
 use Rattle.files.proofs.tagfile.fits.Tie as tie
 

@@ -1,6 +1,6 @@
 -- The two numbers behind letters and version.
+use Rattle.fips197.proofs.Kit.{needs}
 use Rattle.files.specs.TagFile.{codeOf, countOf, headOf}
-use borrow.Author.Needs.{needs}
 use Rattle.files.proofs.tagfile.head_of.Statement.{statement}
 use Rattle.files.proofs.tagfile.head_of.Tie as tie
 

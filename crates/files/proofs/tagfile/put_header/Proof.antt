@@ -1,13 +1,7 @@
 -- Eight stores, the count as to_be16 gives it.
-use mathlib.Core.Path.{_∙_}
-use mathlib.Core.List.{[], _∷_, _++_}
-use native.Mathlib.Omega.{arith}
-use lib.ListN.{getD, drop}
+use Rattle.fips197.proofs.Kit.{_∙_, [], _∷_, _++_, arith, getD, drop, length-set, sets-eq, needs}
 use Rattle.files.specs.TagFile.{header, tagPrefix}
 use Rattle.cipher.specs.Number.{bigEndian}
-use lib.ListN.{length-set}
-use lib.Seq.{sets-eq}
-use borrow.Author.Needs.{needs}
 use Rattle.files.proofs.tagfile.put_header.Statement.{statement}
 use Rattle.files.proofs.tagfile.put_header.Tie as tie
 

@@ -1,12 +1,7 @@
 -- The part behind the first n bytes comes back with their MAC in front.
-use mathlib.Core.Path.{_≡_, ap, _∙_}
-use mathlib.Core.List.{List, _++_}
-use Prim.Native.Nat.{ℕ, _+_, _-_}
-use native.Mathlib.Omega.{arith}
-use lib.ListN.{take, drop}
+use Rattle.fips197.proofs.Kit.{_≡_, ap, _∙_, List, _++_, ℕ, _+_, _-_, arith, take, drop, needs}
 use Rattle.cipher.specs.Cmac.{cmac}
 use Rattle.cipher.proofs.Loop.{part-back}
-use borrow.Author.Needs.{needs}
 use Rattle.files.proofs.tagfile.seal.Statement.{statement}
 use Rattle.files.proofs.tagfile.seal.Tie as tie
 

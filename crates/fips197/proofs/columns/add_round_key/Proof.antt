@@ -1,6 +1,6 @@
 -- A column at a time (WordLaws).
+use Rattle.fips197.proofs.Kit.{needs}
 use Rattle.fips197.proofs.WordLaws.{keyed-columns}
-use borrow.Author.Needs.{needs}
 use Rattle.fips197.proofs.columns.add_round_key.Statement.{statement}
 use Rattle.fips197.proofs.columns.add_round_key.Tie as tie
 

@@ -1,7 +1,5 @@
 -- Four bytes through the table.
-use mathlib.Core.Path.{_∙_}
-use mathlib.Core.List.{[], _∷_}
-use borrow.Author.Needs.{needs}
+use Rattle.fips197.proofs.Kit.{_∙_, [], _∷_, needs}
 use Rattle.fips197.proofs.columns.gather.Statement.{statement}
 use Rattle.fips197.proofs.columns.gather.Tie as tie
 

@@ -1,8 +1,6 @@
 -- A word of the schedule is its four bytes (Schedules).
-use mathlib.Core.Path.{sym, _∙_}
-use native.Mathlib.Omega.{arith}
+use Rattle.fips197.proofs.Kit.{sym, _∙_, arith, needs}
 use Rattle.fips197.proofs.Schedules.{word-is}
-use borrow.Author.Needs.{needs}
 use Rattle.fips197.proofs.columns.key_word.Statement.{statement}
 use Rattle.fips197.proofs.columns.key_word.Tie as tie
 

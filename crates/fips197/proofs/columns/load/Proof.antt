@@ -1,10 +1,7 @@
 -- Four words, each of its four bytes.
-use mathlib.Core.Path.{_≡_, _∙_}
-use mathlib.Core.List.{_++_}
-use lib.ListN.{length}
+use Rattle.fips197.proofs.Kit.{_≡_, _∙_, _++_, length, needs}
 use Rattle.fips197.specs.Words.{stateOf}
 use Rattle.fips197.proofs.States.{elements-of}
-use borrow.Author.Needs.{needs}
 use Rattle.fips197.proofs.columns.load.Statement.{statement}
 use Rattle.fips197.proofs.columns.load.Tie as tie
 

@@ -1,6 +1,6 @@
 -- A column at a time (WordLaws).
+use Rattle.fips197.proofs.Kit.{needs}
 use Rattle.fips197.proofs.WordLaws.{shifted-columns}
-use borrow.Author.Needs.{needs}
 use Rattle.fips197.proofs.columns.shift.Statement.{statement}
 use Rattle.fips197.proofs.columns.shift.Tie as tie
 

@@ -1,7 +1,6 @@
 -- The definition.
-use mathlib.Core.Path.{refl}
+use Rattle.fips197.proofs.Kit.{refl, needs}
 use Rattle.fips197.specs.Words.{bytesOf}
-use borrow.Author.Needs.{needs}
 use Rattle.fips197.proofs.columns.split.Statement.{statement}
 use Rattle.fips197.proofs.columns.split.Tie as tie
 

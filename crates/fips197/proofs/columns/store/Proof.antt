@@ -1,8 +1,6 @@
 -- Four words, each of its four bytes.
-use mathlib.Core.List.{[], _∷_}
-use lib.ListN.{getD}
+use Rattle.fips197.proofs.Kit.{[], _∷_, getD, needs}
 use Rattle.fips197.specs.Words.{bytesOf, stateOf}
-use borrow.Author.Needs.{needs}
 use Rattle.fips197.proofs.columns.store.Statement.{statement}
 use Rattle.fips197.proofs.columns.store.Tie as tie
 

@@ -1,13 +1,7 @@
 -- Each turn writes one byte of the key; the first 16 are the key (Loop).
-use mathlib.Core.Path.{_≡_, refl, ap, _∙_}
-use Prim.Native.Nat.{_-_, _≤_}
-use native.Mathlib.Omega.{arith}
-use lib.ListN.{length, take, drop}
+use Rattle.fips197.proofs.Kit.{_≡_, refl, ap, _∙_, _-_, _≤_, arith, length, take, drop, length-take, take-at, take-all, needs}
 use Rattle.fips197.proofs.Loop.{part, part-turn}
-use lib.ListN.{length-take}
-use lib.Seq.{take-at, take-all}
 use Rattle.fips197.specs.Block.{zeros}
-use borrow.Author.Needs.{needs}
 use Rattle.fips197.proofs.schedule.begin.Statement.{statement}
 use Rattle.fips197.proofs.schedule.begin.Tie as tie
 

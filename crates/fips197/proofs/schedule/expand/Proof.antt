@@ -1,11 +1,7 @@
 -- Each turn writes a word: the words before i are the schedule so far (Schedules).
-use mathlib.Core.Path.{_≡_, refl, ap, _∙_}
-use Prim.Native.Nat.{_+_, _-_, _*_, _≤_}
-use native.Mathlib.Omega.{arith}
-use lib.ListN.{length, take}
+use Rattle.fips197.proofs.Kit.{_≡_, refl, ap, _∙_, _+_, _-_, _*_, _≤_, arith, length, take, needs}
 use Rattle.fips197.specs.Aes.{expanded, keyExpansion}
 use Rattle.fips197.proofs.Schedules.{put-length, schedule-more, schedule-done}
-use borrow.Author.Needs.{needs}
 use Rattle.fips197.proofs.schedule.expand.Statement.{statement}
 use Rattle.fips197.proofs.schedule.expand.Tie as tie
 

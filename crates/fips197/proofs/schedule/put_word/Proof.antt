@@ -1,8 +1,6 @@
 -- Four stores write the word (Schedules).
-use mathlib.Core.Path.{refl}
-use native.Mathlib.Omega.{arith}
+use Rattle.fips197.proofs.Kit.{refl, arith, needs}
 use Rattle.fips197.proofs.Schedules.{put-word}
-use borrow.Author.Needs.{needs}
 use Rattle.fips197.proofs.schedule.put_word.Statement.{statement}
 use Rattle.fips197.proofs.schedule.put_word.Tie as tie
 

@@ -1,7 +1,7 @@
 -- The table is the one that its rule gives, entry by entry (TableRules).
+use Rattle.fips197.proofs.Kit.{needs}
 use Rattle.fips197.specs.Field.{xtimes, productBy, _•_, powerBy, power}
 use Rattle.fips197.proofs.TableRules.{rconTable, rcon-table}
-use borrow.Author.Needs.{needs}
 use Rattle.fips197.proofs.schedule.rcon.Statement.{statement}
 use Rattle.fips197.proofs.schedule.rcon.Tie as tie
 

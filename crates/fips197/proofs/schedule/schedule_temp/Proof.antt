@@ -1,8 +1,7 @@
 -- The word before, as it is or turned, substituted and with the round constant (Schedules).
-use native.Mathlib.Omega.{arith}
+use Rattle.fips197.proofs.Kit.{arith, needs}
 use Rattle.fips197.specs.Aes.{sbox}
 use Rattle.fips197.proofs.Schedules.{temp-plain, temp-first}
-use borrow.Author.Needs.{needs}
 use Rattle.fips197.proofs.schedule.schedule_temp.Statement.{statement}
 use Rattle.fips197.proofs.schedule.schedule_temp.Tie as tie
 

@@ -1,6 +1,6 @@
 -- Four bytes are the digits of the word to the base 256 (WordLaws).
+use Rattle.fips197.proofs.Kit.{needs}
 use Rattle.fips197.proofs.WordLaws.{bytes-packed}
-use borrow.Author.Needs.{needs}
 use Rattle.fips197.proofs.words.from_bytes.Statement.{statement}
 use Rattle.fips197.proofs.words.from_bytes.Tie as tie
 

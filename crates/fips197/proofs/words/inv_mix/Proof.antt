@@ -1,6 +1,6 @@
 -- Byte by byte, 14, 11, 13 and 9 times in xtimes (WordLaws).
+use Rattle.fips197.proofs.Kit.{needs}
 use Rattle.fips197.proofs.WordLaws.{inv-mix-bytes}
-use borrow.Author.Needs.{needs}
 use Rattle.fips197.proofs.words.inv_mix.Statement.{statement}
 use Rattle.fips197.proofs.words.inv_mix.Tie as tie
 

@@ -1,6 +1,6 @@
 -- Byte by byte, 2 and 3 times in xtimes (WordLaws).
+use Rattle.fips197.proofs.Kit.{needs}
 use Rattle.fips197.proofs.WordLaws.{mix-bytes}
-use borrow.Author.Needs.{needs}
 use Rattle.fips197.proofs.words.mix.Statement.{statement}
 use Rattle.fips197.proofs.words.mix.Tie as tie
 

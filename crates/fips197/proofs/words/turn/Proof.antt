@@ -1,6 +1,6 @@
 -- The digits turned by one (WordLaws).
+use Rattle.fips197.proofs.Kit.{needs}
 use Rattle.fips197.proofs.WordLaws.{bytes-turn1}
-use borrow.Author.Needs.{needs}
 use Rattle.fips197.proofs.words.turn.Statement.{statement}
 use Rattle.fips197.proofs.words.turn.Tie as tie
 

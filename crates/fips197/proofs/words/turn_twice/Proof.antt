@@ -1,6 +1,6 @@
 -- The digits turned by two (WordLaws).
+use Rattle.fips197.proofs.Kit.{needs}
 use Rattle.fips197.proofs.WordLaws.{bytes-turn2}
-use borrow.Author.Needs.{needs}
 use Rattle.fips197.proofs.words.turn_twice.Statement.{statement}
 use Rattle.fips197.proofs.words.turn_twice.Tie as tie
 

@@ -1,7 +1,6 @@
 -- The low seven bits of each byte shifted, and 1b where the high one was set (WordLaws).
-use native.Mathlib.Omega.{arith}
+use Rattle.fips197.proofs.Kit.{arith, and-le-r}
 use Rattle.fips197.proofs.WordLaws.{bytes-xtimes}
-use lib.Bits.{and-le-r}
 use Rattle.fips197.proofs.words.xtime.Statement.{statement}
 use Rattle.fips197.proofs.words.xtime.Tie as tie
 

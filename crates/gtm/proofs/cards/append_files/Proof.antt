@@ -1,8 +1,5 @@
 -- The message stays in the buffer, whose length does not change.
-use Prim.Native.Nat.{_-_, _≤_}
-use mathlib.Core.Path.{_≡_}
-use lib.ListN.{length}
-use borrow.Author.Needs.{needs}
+use Rattle.fips197.proofs.Kit.{_-_, _≤_, _≡_, length, needs}
 use Rattle.gtm.proofs.cards.append_files.Statement.{statement}
 use Rattle.gtm.proofs.cards.append_files.Tie as tie
 

@@ -1,6 +1,5 @@
 -- The cards come one after another.
-use Prim.Native.Nat.{_-_, _≤_}
-use borrow.Author.Needs.{needs}
+use Rattle.fips197.proofs.Kit.{_-_, _≤_, needs}
 use Rattle.gtm.proofs.cards.list_cards.Statement.{statement}
 use Rattle.gtm.proofs.cards.list_cards.Tie as tie
 

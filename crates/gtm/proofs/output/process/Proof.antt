@@ -1,15 +1,5 @@
 -- A number above 0 keeps its value in 64 bits without a sign.
-use mathlib.Core.Path.{_≡_}
-use mathlib.Core.Bool.{true}
-use Prim.Native.Nat.{ℕ}
-use native.Mathlib.Omega.{arith}
-use lib.Dec.{T}
-use lib.IntN.{ℤ, pos, negsuc, natAbs}
-use lib.Signed.{ltZ, nonNeg}
-use mir.Syntax.{w32, w64}
-use mir.Val.{Fits, SFits, toZ, ofZ}
-use mir.Facts.{fits-natAbs, fits-ofZ, sfits-toZ}
-use borrow.Author.Needs.{needs}
+use Rattle.fips197.proofs.Kit.{_≡_, true, ℕ, arith, T, ℤ, pos, negsuc, natAbs, ltZ, nonNeg, w32, w64, Fits, SFits, toZ, ofZ, fits-natAbs, fits-ofZ, sfits-toZ, needs}
 use Rattle.gtm.proofs.output.process.Statement.{statement}
 use Rattle.gtm.proofs.output.process.Tie as tie
 

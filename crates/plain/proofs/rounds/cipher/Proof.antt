@@ -1,13 +1,9 @@
 -- Each turn is a round (RoundTrip).
-use mathlib.Core.Path.{_≡_, refl, ap, ap₂, _∙_}
-use mathlib.Core.List.{List}
-use Prim.Native.Nat.{ℕ, _-_, _≤_}
-use native.Mathlib.Omega.{arith}
+use Rattle.fips197.proofs.Kit.{_≡_, refl, ap, ap₂, _∙_, List, ℕ, _-_, _≤_, arith, needs}
 use Rattle.fips197.specs.Block.{_⊕_}
 use Rattle.fips197.specs.Aes.{sbox, subBytes, shiftRows, roundKey, rounds, cipher}
 use Rattle.fips197.proofs.RoundTrip.{rounds-more}
 use Rattle.fips197.specs.Words.{stateOf}
-use borrow.Author.Needs.{needs}
 use Rattle.plain.proofs.rounds.cipher.Statement.{statement}
 use Rattle.plain.proofs.rounds.cipher.Tie as tie
 

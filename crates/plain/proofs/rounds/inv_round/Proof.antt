@@ -1,10 +1,7 @@
 -- The steps, one after the other.
-use mathlib.Core.Path.{ap, _∙_}
-use mathlib.Core.List.{List}
-use Prim.Native.Nat.{ℕ}
+use Rattle.fips197.proofs.Kit.{ap, _∙_, List, ℕ, needs}
 use Rattle.fips197.specs.Block.{_⊕_}
 use Rattle.fips197.specs.Aes.{invSbox, invSubBytes, invMixColumns, roundKey}
-use borrow.Author.Needs.{needs}
 use Rattle.plain.proofs.rounds.inv_round.Statement.{statement}
 use Rattle.plain.proofs.rounds.inv_round.Tie as tie
 

@@ -1,7 +1,7 @@
 -- A column at a time (WordLaws).
+use Rattle.fips197.proofs.Kit.{needs}
 use Rattle.fips197.proofs.WordLaws.{mixed-columns}
 use Rattle.fips197.specs.Aes.{mixed, mixColumns}
-use borrow.Author.Needs.{needs}
 use Rattle.plain.proofs.rounds.mix_columns.Statement.{statement}
 use Rattle.plain.proofs.rounds.mix_columns.Tie as tie
 

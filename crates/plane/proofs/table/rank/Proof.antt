@@ -1,9 +1,6 @@
 -- The rank is from low to high; each turn halves what lies between (Ranks).
-use Prim.Native.Nat.{_+_, _-_, _/_, _≤_, _<_}
-use native.Mathlib.Omega.{arith}
-use lib.ListN.{length}
+use Rattle.fips197.proofs.Kit.{_+_, _-_, _/_, _≤_, _<_, arith, length, needs}
 use Rattle.plane.proofs.Ranks.{rank, rank-above, rank-below, rank-length}
-use borrow.Author.Needs.{needs}
 use Rattle.plane.proofs.table.rank.Statement.{statement}
 use Rattle.plane.proofs.table.rank.Tie as tie
 
@@ -16,14 +13,8 @@ abbrev μ-loop : tie.MeasureT-loop
 loop-holds : tie.Need-loop-holds Inv-loop μ-loop
 loop-holds c = let a = c .before .args in (search needs, omega arith, rank-length (a .d .now) (a .x))
 
-add-k : tie.Need-add-k Inv-loop μ-loop
-add-k c = search needs
-
 read-requires : tie.Need-read-requires Inv-loop μ-loop
 read-requires c κs = omega (arith, c .before .loop .inv .0, c .loop-test .taken)
-
-add-low : tie.Need-add-low Inv-loop μ-loop
-add-low c = search needs
 
 loop-less : tie.Need-loop-less Inv-loop μ-loop
 loop-less c = omega (arith, c .before .before .loop-test .taken)
@@ -49,4 +40,7 @@ returns : tie.Need-returns Inv-loop μ-loop
 returns c = omega (arith, c .before .loop .inv .1, c .before .loop .inv .2)
 
 pub rank-spec : {M : Type 1} → statement M
-rank-spec = tie.close (tie.spec Inv-loop μ-loop loop-holds add-k read-requires add-low loop-less loop-again loop-less-2 loop-again-2 returns)
+rank-spec =
+    tie.close
+    (tie.spec Inv-loop μ-loop loop-holds (λ c. search needs) read-requires (λ c. search needs) loop-less loop-again loop-less-2
+    loop-again-2 returns)

@@ -1,25 +1,15 @@
 -- The part of the table that is this plane's (Lookup).
-use mathlib.Core.Path.{ap, _∙_}
-use native.Mathlib.Omega.{arith}
-use lib.ListN.{getD}
-use Prim.Native.Nat.{ℕ, _+_}
+use Rattle.fips197.proofs.Kit.{ap, _∙_, arith, getD, ℕ, _+_, needs}
 use Rattle.plane.specs.Table.{patternLists}
 use Rattle.plane.proofs.Lookup.{patternTable, step-bound, step-at}
-use borrow.Author.Needs.{needs}
 use Rattle.plane.proofs.table.step.Statement.{statement}
 use Rattle.plane.proofs.table.step.Tie as tie
-
-column-requires : tie.Need-column-requires
-column-requires c κs = search needs
 
 add-from-u8 : tie.Need-add-from-u8
 add-from-u8 c = omega (arith, step-bound (c .before .args .s) (c .before .args .k) (c .before .pre), c .column .ensures)
 
 array-read-from-u8 : tie.Need-array-read-from-u8
 array-read-from-u8 c = omega (arith, step-bound (c .before .args .s) (c .before .args .k) (c .before .pre), c .column .ensures)
-
-from-u8-requires : tie.Need-from-u8-requires
-from-u8-requires c κs = search needs
 
 returns : tie.Need-returns
 unfolding patternTable patternLists
@@ -30,4 +20,4 @@ returns c =
     ∙ step-at (a .args .s) (a .args .k) (a .pre)
 
 pub step-spec : {M : Type 1} → statement M
-step-spec = tie.close (tie.spec column-requires add-from-u8 array-read-from-u8 from-u8-requires returns)
+step-spec = tie.close (tie.spec (λ c κs. search needs) add-from-u8 array-read-from-u8 (λ c κs. search needs) returns)

@@ -1,24 +1,17 @@
 -- By whether the difference leads past the last item (Walks).
-use native.Mathlib.Omega.{arith}
+use Rattle.fips197.proofs.Kit.{arith, needs}
 use Rattle.plane.proofs.Lookup.{items-most}
 use Rattle.plane.proofs.Walks.{few, walk-turn, difference-high, round-past, round-item, ahead-place, ahead-item}
-use borrow.Author.Needs.{needs}
 use Rattle.plane.proofs.walk.item_at.Statement.{statement}
 use Rattle.plane.proofs.walk.item_at.Tie as tie
 
 add-place : tie.Need-add-place
 add-place c = let p = c .before .pre in omega (arith, few (p .0), walk-turn (p .0), p .1)
 
-read-requires : tie.Need-read-requires
-read-requires c κs = search needs
-
 add-result : tie.Need-add-result
 add-result c =
     let d = c .before .before .before in
     omega (arith, d .pre .0 .high, items-most (d .args .s), difference-high (d .pre .0) (c .before .if1 .taken) (c .read .ensures))
-
-items-requires : tie.Need-items-requires
-items-requires c κs = search needs
 
 sub-result : tie.Need-sub-result
 sub-result c =
@@ -29,9 +22,6 @@ returns : tie.Need-returns
 returns c =
     let p = c .before .before .before .before .pre in
     round-item (p .0) (p .1) (c .before .before .if1 .taken) (c .before .read .ensures) (c .items .ensures)
-
-sub-read : tie.Need-sub-read
-sub-read c = search needs
 
 read-requires-2 : tie.Need-read-requires-2
 read-requires-2 c κs = let p = c .before .before .pre in ahead-place (p .0) (p .1) (c .if1 .left)
@@ -49,4 +39,5 @@ returns-2 c =
 pub item-at-spec : {M : Type 1} → statement M
 item-at-spec =
     tie.close
-    (tie.spec add-place read-requires add-result items-requires sub-result returns sub-read read-requires-2 add-result-2 returns-2)
+    (tie.spec add-place (λ c κs. search needs) add-result (λ c κs. search needs) sub-result returns (λ c. search needs)
+    read-requires-2 add-result-2 returns-2)

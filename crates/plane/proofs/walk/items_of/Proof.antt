@@ -1,16 +1,10 @@
 -- The walk, or nothing where there is no such row (Walks).
+use Rattle.fips197.proofs.Kit.{needs}
 use Rattle.incidence.proofs.Counting.{inside-low, inside-high}
 use Rattle.plane.specs.Walk.{along}
 use Rattle.plane.proofs.Walks.{inside-of, items-out, written-none}
-use borrow.Author.Needs.{needs}
 use Rattle.plane.proofs.walk.items_of.Statement.{statement}
 use Rattle.plane.proofs.walk.items_of.Tie as tie
-
-items-requires : tie.Need-items-requires
-items-requires c κs = search needs
-
-inside-requires : tie.Need-inside-requires
-inside-requires c κs = search needs
 
 walk-requires : tie.Need-walk-requires
 walk-requires c κs =
@@ -29,4 +23,4 @@ returns-2 c =
     written-none (b .before .args .out .now) (items-out _ _ (inside-of _ _ (b .before .args .i) _ _ (b .items .ensures) (c .before .inside .ensures) (c .if1 .left)))
 
 pub items-of-spec : {M : Type 1} → statement M
-items-of-spec = tie.close (tie.spec items-requires inside-requires walk-requires returns returns-2)
+items-of-spec = tie.close (tie.spec (λ c κs. search needs) (λ c κs. search needs) walk-requires returns returns-2)

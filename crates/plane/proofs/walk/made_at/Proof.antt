@@ -1,15 +1,9 @@
 -- So many rows back as the pattern says (Walks).
-use mathlib.Core.Path.{sym}
-use native.Mathlib.Omega.{arith}
-use lib.ListN.{List·getD-eq-default}
+use Rattle.fips197.proofs.Kit.{sym, arith, List·getD-eq-default, needs}
 use Rattle.plane.specs.Plane.{plane}
 use Rattle.plane.proofs.Walks.{made-place, made-row, made-most}
-use borrow.Author.Needs.{needs}
 use Rattle.plane.proofs.walk.made_at.Statement.{statement}
 use Rattle.plane.proofs.walk.made_at.Tie as tie
-
-made-count-requires : tie.Need-made-count-requires
-made-count-requires c κs = search needs
 
 returns : tie.Need-returns
 returns c =
@@ -30,4 +24,4 @@ returns-2 c =
     sym (made-row (a .s) (a .i) (a .k) (omega (arith, c .before .before .made-count .ensures)) _ (c .step .ensures))
 
 pub made-at-spec : {M : Type 1} → statement M
-made-at-spec = tie.close (tie.spec made-count-requires returns step-requires sub-result returns-2)
+made-at-spec = tie.close (tie.spec (λ c κs. search needs) returns step-requires sub-result returns-2)

@@ -1,27 +1,16 @@
 -- Rows past the tagged ones are made of the pattern (Walks).
-use mathlib.Core.Path.{sym, _∙_}
-use native.Mathlib.Omega.{arith}
+use Rattle.fips197.proofs.Kit.{sym, _∙_, arith, needs}
 use Rattle.plane.proofs.Walks.{made-none-low, made-none-high, made-length}
-use borrow.Author.Needs.{needs}
 use Rattle.plane.proofs.walk.made_count.Statement.{statement}
 use Rattle.plane.proofs.walk.made_count.Tie as tie
 
-tags-requires : tie.Need-tags-requires
-tags-requires c κs = search needs
-
 returns : tie.Need-returns
 returns c = let a = c .before .before .args in sym (made-none-low (a .s) (a .i) (omega (arith, c .before .tags .ensures)))
-
-items-requires : tie.Need-items-requires
-items-requires c κs = search needs
 
 returns-2 : tie.Need-returns-2
 returns-2 c =
     let a = c .before .before .before .before .args in
     sym (made-none-high (a .s) (a .i) (omega (arith, c .before .items .ensures)))
-
-step-count-requires : tie.Need-step-count-requires
-step-count-requires c κs = search needs
 
 returns-3 : tie.Need-returns-3
 returns-3 c =
@@ -33,4 +22,4 @@ returns-3 c =
 pub made-count-spec : {M : Type 1} → statement M
 made-count-spec =
     tie.close
-    (tie.spec tags-requires returns items-requires returns-2 step-count-requires returns-3)
+    (tie.spec (λ c κs. search needs) returns (λ c κs. search needs) returns-2 (λ c κs. search needs) returns-3)

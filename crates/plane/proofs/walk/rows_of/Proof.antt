@@ -1,7 +1,5 @@
 -- The walk back along the row that stands as far from the end, or nothing where there is no such item (Walks).
-use mathlib.Core.Path.{_≡_, sym, ap, _∙_}
-use Prim.Native.Nat.{_+_, _-_}
-use native.Mathlib.Omega.{arith}
+use Rattle.fips197.proofs.Kit.{_≡_, sym, ap, _∙_, _+_, _-_, arith, needs}
 use Rattle.incidence.specs.Family.{rowsOf}
 use Rattle.incidence.proofs.Counting.{inside-low, inside-high}
 use Rattle.plane.specs.Table.{planeItems}
@@ -9,15 +7,8 @@ use Rattle.plane.specs.Plane.{plane}
 use Rattle.plane.specs.Walk.{along}
 use Rattle.plane.proofs.Lookup.{items-most}
 use Rattle.plane.proofs.Walks.{inside-of, rows-out, written-as, written-none}
-use borrow.Author.Needs.{needs}
 use Rattle.plane.proofs.walk.rows_of.Statement.{statement}
 use Rattle.plane.proofs.walk.rows_of.Tie as tie
-
-items-requires : tie.Need-items-requires
-items-requires c κs = search needs
-
-inside-requires : tie.Need-inside-requires
-inside-requires c κs = search needs
 
 add-walk : tie.Need-add-walk
 add-walk c = omega (arith, c .before .before .items .ensures, items-most (c .before .before .before .args .s))
@@ -50,4 +41,6 @@ returns-2 c =
     written-none (b .before .args .out .now) (rows-out _ _ (inside-of _ _ (b .before .args .j) _ _ (b .items .ensures) (c .before .inside .ensures) (c .if1 .left)))
 
 pub rows-of-spec : {M : Type 1} → statement M
-rows-of-spec = tie.close (tie.spec items-requires inside-requires add-walk sub-walk walk-requires returns returns-2)
+rows-of-spec =
+    tie.close
+    (tie.spec (λ c κs. search needs) (λ c κs. search needs) add-walk sub-walk walk-requires returns returns-2)

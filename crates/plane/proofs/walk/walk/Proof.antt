@@ -1,22 +1,14 @@
 -- The table is taken and searched once, and followed from where it turns (Walks).
-use mathlib.Core.Path.{refl}
-use native.Mathlib.Omega.{arith}
+use Rattle.fips197.proofs.Kit.{refl, arith, needs}
 use Rattle.plane.specs.Table.{differenceLists}
 use Rattle.plane.proofs.Lookup.{differences-rise}
 use Rattle.plane.proofs.Walks.{walk-of}
-use borrow.Author.Needs.{needs}
 use Rattle.plane.proofs.walk.walk.Statement.{statement}
 use Rattle.plane.proofs.walk.walk.Tie as tie
-
-slice-aggregate-differences : tie.Need-slice-aggregate-differences
-slice-aggregate-differences c = search needs
 
 differences-requires : tie.Need-differences-requires
 unfolding differenceLists
 differences-requires c κs = refl
-
-items-requires : tie.Need-items-requires
-items-requires c κs = search needs
 
 sub-rank : tie.Need-sub-rank
 sub-rank c = omega (arith, c .items .ensures, c .before .before .before .before .pre .0 .1)
@@ -30,11 +22,11 @@ write-requires c κs =
     let p = i .before .before .before .before .pre in
     (walk-of (p .0 .0) (p .0 .1) (i .items .ensures) (i .before .differences .ensures) (c .before .rank .ensures), p .1)
 
-same-length : tie.Need-same-length
-same-length c = search needs
-
 returns : tie.Need-returns
 returns c = c .before .before .write .ensures
 
 pub walk-spec : {M : Type 1} → statement M
-walk-spec = tie.close (tie.spec slice-aggregate-differences differences-requires items-requires sub-rank rank-requires write-requires same-length returns)
+walk-spec =
+    tie.close
+    (tie.spec (λ c. search needs) differences-requires (λ c κs. search needs) sub-rank rank-requires write-requires
+    (λ c. search needs) returns)

@@ -1,12 +1,8 @@
 -- Each turn stores one number (cipher's Loop).
-use mathlib.Core.Path.{_≡_, refl, sym}
-use Prim.Native.Nat.{_-_, _≤_}
-use native.Mathlib.Omega.{arith}
-use lib.ListN.{length}
+use Rattle.fips197.proofs.Kit.{_≡_, refl, sym, _-_, _≤_, arith, length, needs}
 use Rattle.cipher.proofs.Loop.{part, part-turn, part-front}
 use Rattle.plane.specs.Walk.{along}
 use Rattle.plane.proofs.Walks.{few, walk-length}
-use borrow.Author.Needs.{needs}
 use Rattle.plane.proofs.walk.write.Statement.{statement}
 use Rattle.plane.proofs.walk.write.Tie as tie
 
@@ -16,12 +12,6 @@ Inv-loop d s i turn back out₀ n k₀ out k = (k ≤ n) × (length out ≡ leng
 abbrev μ-loop : tie.MeasureT-loop
 μ-loop d s i turn back out₀ n k₀ out k = n - k
 
-loop-holds : tie.Need-loop-holds Inv-loop μ-loop
-loop-holds c = search needs
-
-number-at-requires : tie.Need-number-at-requires Inv-loop μ-loop
-number-at-requires c κs = search needs
-
 mul-out : tie.Need-mul-out Inv-loop μ-loop
 mul-out c = omega (arith, c .before .loop-test .taken, few (c .before .before .before .before .before .pre .0))
 
@@ -29,12 +19,6 @@ slice-write-out : tie.Need-slice-write-out Inv-loop μ-loop
 slice-write-out c =
     let d = c .before .before .before .before .before in
     omega (arith, c .before .loop-test .taken, c .before .before .loop .inv .1, few (d .pre .0), d .pre .1)
-
-add-k : tie.Need-add-k Inv-loop μ-loop
-add-k c = search needs
-
-loop-less : tie.Need-loop-less Inv-loop μ-loop
-loop-less c = search needs
 
 loop-again : tie.Need-loop-again Inv-loop μ-loop
 loop-again c =
@@ -47,9 +31,6 @@ loop-again c =
           (omega (arith, few W, d .pre .1)) (omega (arith, walk-length W (d .args .back))) (c .number-at .ensures),
     )
 
-same-length : tie.Need-same-length Inv-loop μ-loop
-same-length c = search needs
-
 returns : tie.Need-returns Inv-loop μ-loop
 returns c =
     let l = c .before in
@@ -58,4 +39,7 @@ returns c =
     (part-front _ (l .loop .k) (along (d .args .s) (d .args .i) (d .args .back)) (d .args .out .now) (l .loop .out) (l .loop .inv .2) (omega (arith, e)) refl, sym e)
 
 pub write-spec : {M : Type 1} → statement M
-write-spec = tie.close (tie.spec Inv-loop μ-loop loop-holds number-at-requires mul-out slice-write-out add-k loop-less loop-again same-length returns)
+write-spec =
+    tie.close
+    (tie.spec Inv-loop μ-loop (λ c. search needs) (λ c κs. search needs) mul-out slice-write-out (λ c. search needs)
+    (λ c. search needs) loop-again (λ c. search needs) returns)

@@ -1,6 +1,6 @@
 -- As `unless` has it.
+use Rattle.fips197.proofs.Kit.{needs}
 use Rattle.session.specs.Session.{refuse23}
-use borrow.Author.Needs.{needs}
 use Rattle.session.proofs.Session.check_all.Statement.{statement}
 use Rattle.session.proofs.Session.check_all.Tie as tie
 

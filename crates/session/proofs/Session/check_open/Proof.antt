@@ -1,9 +1,7 @@
 -- As `unless` has it.
-use mathlib.Core.Path.{ap, _∙_}
-use mathlib.Core.Bool.{Bool}
+use Rattle.fips197.proofs.Kit.{ap, _∙_, Bool, needs}
 use Rattle.files.specs.Refusals.{unless}
 use Rattle.session.specs.Session.{refuse24}
-use borrow.Author.Needs.{needs}
 use Rattle.session.proofs.Session.check_open.Statement.{statement}
 use Rattle.session.proofs.Session.check_open.Tie as tie
 

@@ -1,11 +1,9 @@
 -- The tag file of the sums where the refusal's number is 0, else all as it was (Stepping).
-use mathlib.Core.Path.{_≡_, sym, _∙_}
-use lib.ListN.{length}
+use Rattle.fips197.proofs.Kit.{_≡_, sym, _∙_, length, needs}
 use Rattle.session.specs.Session.{closed, closeRefusal, closeGives, closeWrites}
 use Rattle.session.proofs.Carried.{sums-fit}
 use Rattle.files.proofs.Passing.{given, kept}
 use Rattle.session.proofs.Stepping.{close-tells}
-use borrow.Author.Needs.{needs}
 use Rattle.session.proofs.Session.close.Statement.{statement}
 use Rattle.session.proofs.Session.close.Tie as tie
 

@@ -1,9 +1,7 @@
 -- 24, 23 and 7 (Passing).
-use mathlib.Core.Path.{ap, _∙_}
-use Prim.Native.Nat.{ℕ}
+use Rattle.fips197.proofs.Kit.{ap, _∙_, ℕ, needs}
 use Rattle.files.specs.Arguments.{refuse7}
 use Rattle.files.proofs.Passing.{same-first, same-cons, same-nil}
-use borrow.Author.Needs.{needs}
 use Rattle.session.proofs.Session.close_refusal.Statement.{statement}
 use Rattle.session.proofs.Session.close_refusal.Tie as tie
 

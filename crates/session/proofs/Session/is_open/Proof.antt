@@ -1,10 +1,7 @@
 -- By its two tests.
-use mathlib.Core.Path.{sym, ap, _∙_}
-use mathlib.Core.Bool.{Bool, _&&_}
-use lib.Dec.{leb}
+use Rattle.fips197.proofs.Kit.{sym, ap, _∙_, Bool, _&&_, leb, needs}
 use Rattle.incidence.proofs.Booleans.{and-false-l}
 use Rattle.session.specs.Session.{isOpen}
-use borrow.Author.Needs.{needs}
 use Rattle.session.proofs.Session.is_open.Statement.{statement}
 use Rattle.session.proofs.Session.is_open.Tie as tie
 

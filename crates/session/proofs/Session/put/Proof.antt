@@ -1,9 +1,8 @@
 -- With the item where the refusal's number is 0, else as it was (Stepping).
-use mathlib.Core.Path.{_∙_}
+use Rattle.fips197.proofs.Kit.{_∙_, needs}
 use Rattle.session.specs.Session.{putRefusal, withItem, putGives}
 use Rattle.files.proofs.Passing.{given, kept}
 use Rattle.session.proofs.Stepping.{put-tells}
-use borrow.Author.Needs.{needs}
 use Rattle.session.proofs.Session.put.Statement.{statement}
 use Rattle.session.proofs.Session.put.Tie as tie
 

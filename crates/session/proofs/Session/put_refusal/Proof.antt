@@ -1,7 +1,7 @@
 -- 24, 22 and 9 (Passing).
+use Rattle.fips197.proofs.Kit.{needs}
 use Rattle.files.proofs.Passing.{listed}
 use Rattle.session.specs.Session.{putRefusal}
-use borrow.Author.Needs.{needs}
 use Rattle.session.proofs.Session.put_refusal.Statement.{statement}
 use Rattle.session.proofs.Session.put_refusal.Tie as tie
 

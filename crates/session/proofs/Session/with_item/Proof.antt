@@ -1,11 +1,8 @@
 -- The sums take the item's hash (Stepping).
-use mathlib.Core.Path.{_≡_}
-use Prim.Native.Nat.{_+_}
-use lib.ListN.{length}
+use Rattle.fips197.proofs.Kit.{_≡_, _+_, length, needs}
 use Rattle.tagging.proofs.Summing.{added-ready}
 use Rattle.session.proofs.Carried.{sums-fit, added-is}
 use Rattle.session.proofs.Stepping.{with-item-is}
-use borrow.Author.Needs.{needs}
 use Rattle.session.proofs.Session.with_item.Statement.{statement}
 use Rattle.session.proofs.Session.with_item.Tie as tie
 

@@ -1,10 +1,8 @@
 -- By where the word stands (KeyLaws).
-use mathlib.Core.Path.{sym, ap, _∙_}
-use native.Mathlib.Omega.{arith}
+use Rattle.fips197.proofs.Kit.{sym, ap, _∙_, arith, needs}
 use Rattle.fips197.specs.Aes.{invMixed}
 use Rattle.fips197.specs.Words.{column}
 use Rattle.tables.proofs.KeyLaws.{decipher-inside, decipher-below, decipher-above}
-use borrow.Author.Needs.{needs}
 use Rattle.tables.proofs.keys.decipher_word.Statement.{statement}
 use Rattle.tables.proofs.keys.decipher_word.Tie as tie
 

@@ -1,12 +1,8 @@
 -- Each turn writes a word (KeyLaws).
-use mathlib.Core.Path.{_≡_, refl, _∙_}
-use Prim.Native.Nat.{ℕ, _-_, _≤_, _<_}
-use native.Mathlib.Omega.{arith}
-use lib.ListN.{length, getD, length-set}
+use Rattle.fips197.proofs.Kit.{_≡_, refl, _∙_, ℕ, _-_, _≤_, _<_, arith, length, getD, length-set, needs}
 use Rattle.fips197.specs.Words.{bytesOf}
 use Rattle.tables.specs.RoundTables.{decipherWord}
 use Rattle.tables.proofs.KeyLaws.{words-more}
-use borrow.Author.Needs.{needs}
 use Rattle.tables.proofs.keys.decipher_words.Statement.{statement}
 use Rattle.tables.proofs.keys.decipher_words.Tie as tie
 

@@ -1,5 +1,5 @@
 -- The rule of the tables, tested at every word (TableRules).
-use mathlib.Core.Path.{refl}
+use Rattle.fips197.proofs.Kit.{refl}
 use Rattle.fips197.specs.Field.{xtimes, productBy, _•_, powerBy, power, inverse}
 use Rattle.fips197.specs.Aes.{bit, byteOf, affine, sbox}
 use Rattle.fips197.proofs.TableRules.{sboxTable, sbox-table, sbox-lt}

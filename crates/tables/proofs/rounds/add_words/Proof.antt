@@ -1,8 +1,6 @@
 -- A column at a time (Joining).
-use Prim.Native.Nat.{_+_, _*_}
-use native.Mathlib.Omega.{arith}
+use Rattle.fips197.proofs.Kit.{_+_, _*_, arith, needs}
 use Rattle.tables.proofs.Joining.{keyed-words}
-use borrow.Author.Needs.{needs}
 use Rattle.tables.proofs.rounds.add_words.Statement.{statement}
 use Rattle.tables.proofs.rounds.add_words.Tie as tie
 

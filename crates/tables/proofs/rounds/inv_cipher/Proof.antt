@@ -1,16 +1,11 @@
 -- Each turn undoes a round: what is left to do gives what the whole gives (RoundTrip).
-use mathlib.Core.Path.{_≡_, refl, ap, _∙_}
-use mathlib.Core.List.{List}
-use Prim.Native.Nat.{ℕ, _≤_}
-use native.Mathlib.Omega.{arith}
-use lib.ListN.{length}
+use Rattle.fips197.proofs.Kit.{_≡_, refl, ap, _∙_, List, ℕ, _≤_, arith, length, needs}
 use Rattle.fips197.specs.Block.{_⊕_}
 use Rattle.fips197.specs.Aes.{invSbox, invSubBytes, invRounds, invCipher}
 use Rattle.fips197.specs.Words.{stateOf}
 use Rattle.fips197.proofs.RoundTrip.{invRounds-less}
 use Rattle.tables.specs.RoundTables.{DecipherWords}
 use Rattle.tables.proofs.KeyLaws.{decipher-first, decipher-last, mixed-back}
-use borrow.Author.Needs.{needs}
 use Rattle.tables.proofs.rounds.inv_cipher.Statement.{statement}
 use Rattle.tables.proofs.rounds.inv_cipher.Tie as tie
 

@@ -1,10 +1,8 @@
 -- A column at a time: what the tables hold adds up to the mixed column (Joining).
-use mathlib.Core.Path.{_∙_}
-use Prim.Native.Nat.{_/_, _%_}
+use Rattle.fips197.proofs.Kit.{_∙_, _/_, _%_, needs}
 use Rattle.fips197.specs.Aes.{invSbox, invMixed, invMixColumns, invSubBytes}
 use Rattle.tables.specs.RoundTables.{invRoundEntry}
 use Rattle.tables.proofs.Joining.{invSpread-sum, mixed-unshifted}
-use borrow.Author.Needs.{needs}
 use Rattle.tables.proofs.rounds.inv_mix.Statement.{statement}
 use Rattle.tables.proofs.rounds.inv_mix.Tie as tie
 

@@ -1,6 +1,6 @@
 -- Four words of the tables, two of them turned (Joining).
+use Rattle.fips197.proofs.Kit.{needs}
 use Rattle.tables.proofs.Joining.{joined-bytes}
-use borrow.Author.Needs.{needs}
 use Rattle.tables.proofs.rounds.joined.Statement.{statement}
 use Rattle.tables.proofs.rounds.joined.Tie as tie
 

@@ -1,8 +1,5 @@
 -- Two numbers are written inside the buffer, whose length stays.
-use Prim.Native.Nat.{_≤_, _-_}
-use mathlib.Core.Path.{_≡_}
-use lib.ListN.{length}
-use borrow.Author.Needs.{needs}
+use Rattle.fips197.proofs.Kit.{_≤_, _-_, _≡_, length, needs}
 use Rattle.trial.proofs.inputs.put_short_cards.Statement.{statement}
 use Rattle.trial.proofs.inputs.put_short_cards.Tie as tie
 

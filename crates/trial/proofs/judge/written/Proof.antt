@@ -1,7 +1,5 @@
 -- The place stays inside the buffer.
-use Prim.Native.Nat.{_≤_}
-use lib.ListN.{length}
-use borrow.Author.Needs.{needs}
+use Rattle.fips197.proofs.Kit.{_≤_, length, needs}
 use Rattle.trial.proofs.judge.written.Statement.{statement}
 use Rattle.trial.proofs.judge.written.Tie as tie
 
@@ -14,4 +12,5 @@ abbrev μ-loop : tie.MeasureT-loop
 pub written-spec : {M : Type 1} → statement M
 written-spec =
     tie.close
-    (tie.spec Inv-loop μ-loop (λ c. search needs) (λ c. search needs) (λ c. search needs) (λ c. search needs) (λ c. search needs) (λ c. search needs) (λ c. search needs) (λ c. search needs))
+    (tie.spec Inv-loop μ-loop (λ c. search needs) (λ c. search needs) (λ c. search needs) (λ c. search needs) (λ c. search needs)
+    (λ c. search needs) (λ c. search needs) (λ c. search needs))

@@ -1,6 +1,5 @@
 -- No more words are looked at than there are.
-use Prim.Native.Nat.{_≤_, _-_}
-use borrow.Author.Needs.{needs}
+use Rattle.fips197.proofs.Kit.{_≤_, _-_, needs}
 use Rattle.trial.proofs.line.place_in.Statement.{statement}
 use Rattle.trial.proofs.line.place_in.Tie as tie
 

@@ -1,7 +1,5 @@
 -- Each line ends inside the text.
-use Prim.Native.Nat.{_+_, _≤_, _-_}
-use lib.ListN.{length}
-use borrow.Author.Needs.{needs}
+use Rattle.fips197.proofs.Kit.{_+_, _≤_, _-_, length, needs}
 use Rattle.trial.proofs.line.run_all.Statement.{statement}
 use Rattle.trial.proofs.line.run_all.Tie as tie
 
@@ -14,4 +12,5 @@ abbrev μ-loop : tie.MeasureT-loop
 pub run-all-spec : {M : Type 1} → statement M
 run-all-spec =
     tie.close
-    (tie.spec Inv-loop μ-loop (λ c. search needs) (λ c κs. search needs) (λ c. search needs) (λ c. search needs) (λ c. search needs) (λ c κs. search needs) (λ c. search needs) (λ c. search needs) (λ c. search needs) (λ c. search needs))
+    (tie.spec Inv-loop μ-loop (λ c. search needs) (λ c κs. search needs) (λ c. search needs) (λ c. search needs)
+    (λ c. search needs) (λ c κs. search needs) (λ c. search needs) (λ c. search needs) (λ c. search needs) (λ c. search needs))

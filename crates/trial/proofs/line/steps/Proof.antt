@@ -1,8 +1,5 @@
 -- The place stays inside the line, and the length of the bytes stays.
-use Prim.Native.Nat.{_≤_, _-_}
-use mathlib.Core.Path.{_≡_}
-use lib.ListN.{length}
-use borrow.Author.Needs.{needs}
+use Rattle.fips197.proofs.Kit.{_≤_, _-_, _≡_, length, needs}
 use Rattle.trial.proofs.line.steps.Statement.{statement}
 use Rattle.trial.proofs.line.steps.Tie as tie
 
@@ -15,4 +12,5 @@ abbrev μ-loop : tie.MeasureT-loop
 pub steps-spec : {M : Type 1} → statement M
 steps-spec =
     tie.close
-    (tie.spec Inv-loop μ-loop (λ c. search needs) (λ c κs. search needs) (λ c. search needs) (λ c. search needs) (λ c. search needs) (λ c. search needs))
+    (tie.spec Inv-loop μ-loop (λ c. search needs) (λ c κs. search needs) (λ c. search needs) (λ c. search needs)
+    (λ c. search needs) (λ c. search needs))

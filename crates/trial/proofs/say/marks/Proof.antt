@@ -1,7 +1,5 @@
 -- At most as many are cleared as were looked at.
-use Prim.Native.Nat.{_≤_, _-_}
-use lib.ListN.{length}
-use borrow.Author.Needs.{needs}
+use Rattle.fips197.proofs.Kit.{_≤_, _-_, length, needs}
 use Rattle.trial.proofs.say.marks.Statement.{statement}
 use Rattle.trial.proofs.say.marks.Tie as tie
 

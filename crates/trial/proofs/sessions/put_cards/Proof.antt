@@ -1,6 +1,5 @@
 -- No more cards are put than asked for.
-use Prim.Native.Nat.{_≤_, _-_}
-use borrow.Author.Needs.{needs}
+use Rattle.fips197.proofs.Kit.{_≤_, _-_, needs}
 use Rattle.trial.proofs.sessions.put_cards.Statement.{statement}
 use Rattle.trial.proofs.sessions.put_cards.Tie as tie
 
@@ -13,4 +12,5 @@ abbrev μ-loop : tie.MeasureT-loop
 pub put-cards-spec : {M : Type 1} → statement M
 put-cards-spec =
     tie.close
-    (tie.spec Inv-loop μ-loop (λ c. search needs) (λ c. search needs) (λ c κs. search needs) (λ c κs. search needs) (λ c. search needs) (λ c. search needs) (λ c. search needs))
+    (tie.spec Inv-loop μ-loop (λ c. search needs) (λ c. search needs) (λ c κs. search needs) (λ c κs. search needs)
+    (λ c. search needs) (λ c. search needs) (λ c. search needs))

@@ -1,12 +1,7 @@
 -- Each test settles it (Messages).
-use mathlib.Core.Path.{ap, _∙_}
-use Prim.Native.Nat.{ℕ, _+_}
-use native.Mathlib.Omega.{arith}
-use lib.ListN.{length}
+use Rattle.fips197.proofs.Kit.{ap, _∙_, ℕ, _+_, arith, length, leb, needs}
 use Rattle.files.specs.Message.{number16}
 use Rattle.files.proofs.Messages.{fits-not-length, fits-not-size, fits-else}
-use lib.Dec.{leb}
-use borrow.Author.Needs.{needs}
 use Rattle.files.proofs.message.Cursor.fits.Statement.{statement}
 use Rattle.files.proofs.message.Cursor.fits.Tie as tie
 
