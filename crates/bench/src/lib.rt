@@ -1,11 +1,11 @@
 // What bench/cipher.c measures: CMAC, AES-128 both ways over many blocks, and a key with one block, by the engine of tables and by the
 // plain one. Each writes to the front of `out` and answers 1. Where the key is not 16 bytes long or `out` has no room it answers 0, and
 // `out` is as it was.
+use blocks::block::block_at;
+use blocks::block::copy_blocks;
+use blocks::block::put;
+use blocks::block::put_at;
 use cipher::aes;
-use cipher::block::block_at;
-use cipher::block::copy_blocks;
-use cipher::block::put;
-use cipher::block::put_at;
 use cipher::cmac;
 ghost use Prim.Native.Nat.{_≤_};
 ghost use lib.ListN.{length};

@@ -1,6 +1,6 @@
 // What each call on whole messages refuses, in document 01's order: the first that applies. Each entry of a list is one function whose result
 // is that entry, and one that reads a file asks that the entries before it are none.
-use cipher::block;
+use blocks::block;
 use files::Refusal;
 use files::arguments;
 use files::message;

@@ -1,10 +1,10 @@
 -- Document 01's starred bench cards about the cipher, computed from the definitions.
 use Rattle.fips197.proofs.Kit.{_≡_, refl, [], _∷_, _++_}
-use Rattle.cipher.specs.Block.{_⊕_, zeros}
-use Rattle.cipher.specs.Number.{numberOf, number, bigEndian}
+use Rattle.blocks.specs.Block.{_⊕_, zeros}
+use Rattle.blocks.specs.Number.{numberOf, number, bigEndian}
 use Rattle.fips197.specs.Field.{xtimes, productBy, _•_, powerBy, power, inverse}
 use Rattle.fips197.specs.Aes.{bit, byteOf, affine, sbox}
-use Rattle.cipher.specs.Double.{double}
+use Rattle.blocks.specs.Double.{double}
 
 -- the S-box of 53 is ed
 pub sbox-of-53 : sbox 0x53 ≡ 0xed

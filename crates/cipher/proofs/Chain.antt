@@ -1,9 +1,9 @@
 -- CMAC: blocks read from two parts, padding, what the loop keeps of the chain, its two ends, and the sizes.
 use Rattle.fips197.proofs.Kit.{_≡_, refl, sym, ap, ap₂, _∙_, Bool, true, false, List, [], _∷_, _++_, ℕ, zero, suc, _+_, _-_, _*_, _/_, _%_, _≤_, _<_, arith, add-one, eqb, length, getD, take, drop, length-append, length-drop, length-take, length-replicate, getD-replicate, List·getD-append, getD-append-seam, getD-append-add, append-snoc, take-at, take-all, ext-getD, getD-drop, drop-append-add, drop-append-le, take-append-le, lt-of-le-ne, eq-eqb, ne-eqb, eqb-true, eqb-false}
-use Rattle.cipher.specs.Block.{if_then_else_, Bytes, Block, _⊕_, zeros}
+use Rattle.blocks.specs.Block.{if_then_else_, Bytes, Block, _⊕_, zeros}
 use Rattle.cipher.specs.Cmac.{subkey1, subkey2, blockCount, padded, lastBlock, chain, macBy}
-use Rattle.cipher.proofs.Xor.{⊕-block, zeros-block, zeros-bytes, take-bytes, drop-bytes, append-bytes}
-use Rattle.cipher.proofs.Doubling.{double-block}
+use Rattle.blocks.proofs.Xor.{⊕-block, zeros-block, zeros-bytes, take-bytes, drop-bytes, append-bytes}
+use Rattle.blocks.proofs.Doubling.{double-block}
 
 -- ---- two parts
 

@@ -1,7 +1,7 @@
 -- What a crate above may use of the ciphers and of CMAC: sizes and byte ranges, and that deciphering undoes enciphering and the
 -- reverse. It needs nothing of what AES is. The laws of XOR and of numbers that it shares are in Xor, Numbers and Doubling.
 use Rattle.fips197.proofs.Kit.{_≡_, ap, List, ℕ, arith, length}
-use Rattle.cipher.specs.Block.{Bytes, Block}
+use Rattle.blocks.specs.Block.{Bytes, Block}
 use Rattle.cipher.specs.Aes.{encipher, cipher, invCipher}
 use Rattle.cipher.specs.Cmac.{subkey1, subkey2, macBy, cmac, ready, macWith}
 use Rattle.cipher.specs.declared.cmac.MacKey.{MacKey}

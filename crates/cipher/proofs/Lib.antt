@@ -1,9 +1,4 @@
 -- The laws that the proofs of this crate and those of the crates above cite. `Laws` is what a crate above needs of the ciphers.
-pub mod Xor
-pub mod Numbers
-pub mod Slots
-pub mod Loop
-pub mod Doubling
 pub mod Chain
 pub mod BenchCards
 pub mod Laws

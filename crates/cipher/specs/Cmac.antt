@@ -3,8 +3,8 @@ use mathlib.Core.List.{List, _∷_, _++_}
 use Prim.Native.Nat.{ℕ, zero, suc, _+_, _-_, _*_, _/_, max}
 use lib.Dec.{eqb}
 use lib.ListN.{length, take, drop}
-use Rattle.cipher.specs.Block.{if_then_else_, _⊕_, zeros}
-use Rattle.cipher.specs.Double.{double}
+use Rattle.blocks.specs.Block.{if_then_else_, _⊕_, zeros}
+use Rattle.blocks.specs.Double.{double}
 use Rattle.cipher.specs.Aes.{keyExpansion, cipher, encipher}
 use Rattle.cipher.specs.declared.cmac.MacKey.{MacKey}
 

@@ -1,7 +1,7 @@
 // AES-128 (FIPS 197), by round tables. A caller with one block uses `encipher` and `decipher`. A caller with many expands the key
 // once, with `key_expansion`, and hands the schedule to `encipher_with` and `decipher_with`; where the blocks stand in a row, to
 // `encipher_blocks` and `decipher_blocks`.
-use crate::block;
+use blocks::block;
 use fips197::inv_sbox;
 use fips197::sbox;
 use fips197::schedule;
@@ -13,7 +13,7 @@ ghost use mathlib.Core.Path.{_≡_};
 ghost use mathlib.Core.List.{List, _++_};
 ghost use Prim.Native.Nat.{ℕ, _*_, _≤_};
 ghost use lib.ListN.{length, drop};
-ghost use Rattle.cipher.specs.Block.{Block, slot, listOf};
+ghost use Rattle.blocks.specs.Block.{Block, slot, listOf};
 ghost use Rattle.cipher.specs.Aes.{sbox, keyExpansion, cipher, invCipher, encipher, decipher};
 
 // The S-box of a byte.

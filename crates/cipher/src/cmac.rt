@@ -1,8 +1,8 @@
 // CMAC with AES-128 (SP 800-38B, RFC 4493): of a message, and of a message in two parts that are read one after the other
 // where they lie. A caller with many messages prepares the key once, with `prepare`, and uses `mac_of_parts`.
 use crate::aes;
-use crate::block;
 use crate::parts;
+use blocks::block;
 use fips197::sbox;
 use tables::round_tables;
 use tables::rounds;

@@ -2,6 +2,5 @@
 // refused, and all that is asked of a caller is that the blocks lie in their slice. The definitions that the contracts cite are in specs/;
 // a crate above uses their names, the sizes and byte ranges, and the two inverse laws (proofs/Laws.antt), and nothing else of AES.
 pub mod aes;
-pub mod block;
 pub mod cmac;
 mod parts;

@@ -1,5 +1,5 @@
 // Blocks of a message that stands in two parts, read where they lie.
-use crate::block::block_at;
+use blocks::block::block_at;
 ghost use mathlib.Core.Path.{_≡_};
 ghost use mathlib.Core.List.{_++_};
 ghost use Prim.Native.Nat.{_+_, _≤_, _<_};

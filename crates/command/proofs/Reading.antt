@@ -1,6 +1,6 @@
 -- The digits of a text read one after another, and that the digits of a number are read back.
 use Rattle.fips197.proofs.Kit.{_≡_, refl, sym, _∙_, ap, subst, Bool, true, false, _&&_, List, [], _∷_, _++_, ℕ, zero, suc, _+_, _-_, _*_, _/_, _%_, _^_, _≤_, _<_, arith, add-one, eqb, leb, ltb, length, getD, drop, length-append, drop-of-length-le, drop-cons, leb-true, leb-false, le-leb, lt-leb, ltb-true, ltb-false, lt-ltb, le-ltb, eqb-true, eqb-false}
-use Rattle.cipher.specs.Block.{if_then_else_}
+use Rattle.blocks.specs.Block.{if_then_else_}
 use Rattle.incidence.proofs.Booleans.{and-left, and-right, and-both, and-false-l, and-false-r}
 use Rattle.printing.specs.Text.{decimal}
 use Rattle.printing.proofs.Decimals.{before, decimal-last}

@@ -3,7 +3,7 @@ use mathlib.Core.List.{List}
 use Prim.Native.Nat.{ℕ, _+_}
 use lib.Dec.{eqb}
 use lib.ListN.{length}
-use Rattle.cipher.specs.Block.{if_then_else_}
+use Rattle.blocks.specs.Block.{if_then_else_}
 use Rattle.files.specs.declared.Refusal.{Refusal}
 use Rattle.files.specs.Refusals.{refusal, passes}
 use Rattle.packing.specs.Packing.{appendRefusal}

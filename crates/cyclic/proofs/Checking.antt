@@ -1,7 +1,7 @@
 -- The check polynomial of any list: its degree and the generator polynomial's make m, it takes to 0 what D(x) makes of any sequence of period m, and the
 -- generator polynomial is a multiple of D(x) there (Bézout's identity).
 use Rattle.fips197.proofs.Kit.{_≡_, refl, sym, ap, ap₂, _∙_, Bool, true, false, _&&_, xor, List, [], _∷_, _++_, map, ℕ, zero, suc, _+_, _-_, _≤_, _<_, arith, eqb, ltb, set}
-use Rattle.cipher.specs.Block.{if_then_else_, _⊕_, zeros}
+use Rattle.blocks.specs.Block.{if_then_else_, _⊕_, zeros}
 use Rattle.incidence.specs.Family.{parity}
 use Rattle.polynomials.specs.Polynomial.{longer, polySize, raised, gcd}
 use Rattle.polynomials.proofs.Parity.{xor-none, xor-turn, xor-four, xor-self, xor-and, parity-ext, parity-append, parity-map}

@@ -1,6 +1,6 @@
 -- From the list to the pattern: the arrays of m + 1 coefficients, what they hold one after another, and where the call refuses.
 use Rattle.fips197.proofs.Kit.{_≡_, refl, sym, ap, ap₂, _∙_, true, false, _||_, List, _∷_, _++_, ℕ, zero, suc, _+_, _-_, _≤_, _<_, arith, eqb, ltb, length, take, drop, eq-eqb, ne-eqb}
-use Rattle.cipher.specs.Block.{zeros}
+use Rattle.blocks.specs.Block.{zeros}
 use Rattle.incidence.proofs.Booleans.{or-first, or-second}
 use Rattle.polynomials.specs.Polynomial.{gcd, quotient}
 use Rattle.cyclic.specs.CyclicCode.{modulus, ofList, generatorPolynomial, checkPolynomial, stepsBack, rowPattern}

@@ -1,6 +1,6 @@
 -- The steps back that a polynomial's terms stand for, written one behind another: those passed stand at the front.
 use Rattle.fips197.proofs.Kit.{_≡_, refl, sym, ap, ap₂, _∙_, subst, Bool, true, false, List, [], _∷_, _++_, append-assoc, ℕ, suc, _+_, _-_, _≤_, _<_, arith, add-one, eqb, length, getD, set, drop, length-append, drop-cons, set-at, ne-eqb}
-use Rattle.cipher.specs.Block.{if_then_else_}
+use Rattle.blocks.specs.Block.{if_then_else_}
 use Rattle.incidence.specs.Count.{indicator, listed}
 use Rattle.incidence.proofs.Counting.{count-most}
 use Rattle.incidence.proofs.Listing.{listed-length}

@@ -1,6 +1,6 @@
 -- Sums of terms, written into zeros: x^m + 1, and D(x) from the last member of the list to the first.
 use Rattle.fips197.proofs.Kit.{_≡_, refl, sym, ap, _∙_, Bool, true, false, List, [], _∷_, _++_, ℕ, zero, suc, _-_, _≤_, _<_, arith, ltb, length, getD, set, drop, length-append, length-set, length-replicate, drop-length, drop-cons}
-use Rattle.cipher.specs.Block.{if_then_else_, zeros}
+use Rattle.blocks.specs.Block.{if_then_else_, zeros}
 use Rattle.polynomials.proofs.Dividing.{zeros-long}
 use Rattle.cyclic.specs.CyclicCode.{modulus, ofList}
 

@@ -5,7 +5,7 @@ use mathlib.Core.List.{List, [], _∷_, _++_}
 use Prim.Native.Nat.{ℕ, suc, _-_}
 use lib.Dec.{eqb, ltb}
 use lib.ListN.{getD, set}
-use Rattle.cipher.specs.Block.{if_then_else_, zeros}
+use Rattle.blocks.specs.Block.{if_then_else_, zeros}
 use Rattle.incidence.specs.Count.{listed}
 use Rattle.polynomials.specs.Polynomial.{polySize, gcd, quotient}
 

@@ -4,7 +4,7 @@ use mathlib.Core.List.{List, _++_}
 use Prim.Native.Nat.{ℕ}
 use lib.Dec.{eqb, ltb}
 use lib.ListN.{length, drop}
-use Rattle.cipher.specs.Block.{if_then_else_}
+use Rattle.blocks.specs.Block.{if_then_else_}
 use Rattle.cyclic.specs.CyclicCode.{rowPattern}
 use Rattle.cyclic.specs.declared.Derived.{Derived}
 

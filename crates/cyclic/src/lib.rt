@@ -4,7 +4,7 @@ ghost use mathlib.Core.List.{_++_};
 ghost use Prim.Native.Nat.{suc, _+_, _≤_, _<_};
 ghost use lib.Dec.{eqb, ltb};
 ghost use lib.ListN.{length, drop, set};
-ghost use Rattle.cipher.specs.Block.{if_then_else_, zeros};
+ghost use Rattle.blocks.specs.Block.{if_then_else_, zeros};
 ghost use Rattle.incidence.specs.Count.{indicator};
 ghost use Rattle.cyclic.specs.CyclicCode.{modulus, ofList, stepsBack, rowPattern};
 ghost use Rattle.cyclic.specs.Deriving.{patternAnswer, patternWrites};

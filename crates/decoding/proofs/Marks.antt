@@ -1,7 +1,7 @@
 -- Arrays of marks: one mark written leaves the others, what two steps clear is what either clears, and an array whose marks are known is
 -- a list.
 use Rattle.fips197.proofs.Kit.{_≡_, refl, sym, ap, _∙_, subst, Bool, true, false, not, _&&_, _||_, List, [], _∷_, _++_, ℕ, zero, suc, _+_, _-_, _≤_, _<_, arith, eqb, length, getD, set, take, drop, length-set, take-append-drop, take-suc, drop-drop, getD-set-same, getD-set-other, drop-set-lt, eqb-true, eqb-false, ne-eqb}
-use Rattle.cipher.specs.Block.{if_then_else_}
+use Rattle.blocks.specs.Block.{if_then_else_}
 use Rattle.incidence.specs.Count.{indicator, countUpTo, anyUpTo}
 use Rattle.incidence.specs.Family.{Family}
 use Rattle.incidence.specs.Report.{cleared, named, numberNamed, disagreeing, holdsNamed, someUnexplained, answerBy, answer}

@@ -5,7 +5,7 @@ use mathlib.Core.List.{List, [], _∷_, _++_}
 use Prim.Native.Nat.{ℕ, zero, suc, _-_, _≤_}
 use lib.Dec.{eqb}
 use lib.ListN.{length, getD, drop}
-use Rattle.cipher.specs.Block.{if_then_else_, same}
+use Rattle.blocks.specs.Block.{if_then_else_, same}
 use Rattle.incidence.specs.Count.{indicator, anyUpTo}
 use Rattle.incidence.specs.Family.{Family}
 use Rattle.sums.specs.Adding.{sumIn}

@@ -1,6 +1,6 @@
 // What a report makes of two arrays of row sums (000, section 3.1: naïve decoding): the rows that agree clear their items, the others
 // are counted, and the items that no row clears are named.
-use cipher::block;
+use blocks::block;
 use incidence::Answer;
 ghost use mathlib.Core.Path.{_≡_};
 ghost use mathlib.Core.Bool.{_&&_};

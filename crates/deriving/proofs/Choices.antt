@@ -1,7 +1,7 @@
 -- Of any matrix whose first t rows are independent: two lists of steps that yield row t + 1 have the same steps an odd number of times. So one
 -- choice of steps alone yields it, and no list of fewer does.
 use Rattle.fips197.proofs.Kit.{_≡_, refl, sym, ap, ap₂, _∙_, Bool, true, false, _&&_, xor, and-true, and-false, and-comm, List, [], _∷_, _++_, _⊎_, inl, inr, ℕ, zero, suc, _+_, _-_, _≤_, _<_, arith, eqb, length, eqb-true, eqb-false, eq-eqb, ne-eqb}
-use Rattle.cipher.specs.Block.{if_then_else_}
+use Rattle.blocks.specs.Block.{if_then_else_}
 use Rattle.incidence.specs.Count.{indicator, countUpTo, listed}
 use Rattle.incidence.specs.Family.{parity}
 use Rattle.incidence.proofs.Counting.{last-or, bit-most, count-ext, count-none}

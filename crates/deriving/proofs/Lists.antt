@@ -2,7 +2,7 @@
 -- pattern yields any row, and the first t rows are independent. Where there is a row behind them, that pattern is the only one within t, and none there has
 -- fewer steps.
 use Rattle.fips197.proofs.Kit.{_≡_, refl, sym, ap, ap₂, _∙_, Bool, true, false, _&&_, xor, List, [], _∷_, _++_, map, ℕ, zero, suc, _+_, _-_, _%_, _≤_, _<_, add-mod-right, mod-eq-of-lt, zero-mod, arith, eqb, length, getD, take, eq-eqb, ne-eqb}
-use Rattle.cipher.specs.Block.{if_then_else_}
+use Rattle.blocks.specs.Block.{if_then_else_}
 use Rattle.incidence.specs.Count.{listed}
 use Rattle.incidence.specs.Family.{parity}
 use Rattle.incidence.proofs.Listing.{listed-ext}

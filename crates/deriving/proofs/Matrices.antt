@@ -1,6 +1,6 @@
 -- Of any matrix: steps that do not yield a row fail at a card, and rows none of which is had from those before it are independent.
 use Rattle.fips197.proofs.Kit.{_≡_, refl, sym, ap, ap₂, _∙_, Bool, true, false, xor, List, [], _∷_, _++_, map, _⊎_, inl, inr, ℕ, zero, suc, _-_, _≤_, arith}
-use Rattle.cipher.specs.Block.{if_then_else_}
+use Rattle.blocks.specs.Block.{if_then_else_}
 use Rattle.incidence.specs.Count.{anyUpTo, listed}
 use Rattle.incidence.specs.Family.{parity}
 use Rattle.incidence.proofs.Booleans.{not-both, not-passed}

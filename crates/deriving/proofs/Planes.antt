@@ -1,8 +1,8 @@
 -- The four planes: the patterns in use are those derived, and so no shorter patterns, and within t no others and none of fewer steps, yield their rows, and
 -- the tagged rows are independent. What is computed is one test over the four lists; the rest holds of any list (Lists).
 use Rattle.fips197.proofs.Kit.{_≡_, refl, subst, Bool, true, _&&_, List, ℕ, suc, _+_, _-_, _^_, _≤_, _<_, arith, eqb, ltb, eqb-true, ltb-true}
-use Rattle.cipher.specs.Block.{_⊕_, same}
-use Rattle.cipher.proofs.Xor.{same-true}
+use Rattle.blocks.specs.Block.{_⊕_, same}
+use Rattle.blocks.proofs.Xor.{same-true}
 use Rattle.incidence.proofs.Booleans.{and-left, and-right}
 use Rattle.incidence.proofs.Counting.{every, every-at}
 use Rattle.plane.specs.Table.{itemCounts, planeItems, tagCounts, planeTags, differenceLists, differences, patternLists, planePattern}

@@ -1,7 +1,7 @@
 -- The rows of a circulant as D(x) makes them: acting on the sequence that is 1 at card j and at every m-th place from it, D(x) gives at place i whether row i
 -- holds card j; and any polynomial of degree below m shows its coefficients there.
 use Rattle.fips197.proofs.Kit.{_≡_, refl, sym, ap, ap₂, _∙_, Bool, true, false, _&&_, _||_, xor, and-true, and-false, List, [], _∷_, ℕ, zero, suc, _+_, _-_, _*_, _/_, _%_, _≤_, _<_, add-mod-right, mod-add-mod, mod-lt, mod-eq-of-lt, mod-self, div-add-mod', add-mul-mod-self-right, arith, eqb, ltb, getD, set, take, getD-set-same, getD-set-other, eqb-true, eqb-false, eq-eqb, ne-eqb, ltb-true, ltb-false}
-use Rattle.cipher.specs.Block.{if_then_else_}
+use Rattle.blocks.specs.Block.{if_then_else_}
 use Rattle.plane.specs.Plane.{member, on}
 use Rattle.plane.proofs.Cyclic.{on-inside}
 use Rattle.polynomials.specs.Polynomial.{polySize}

@@ -1,7 +1,7 @@
 // The two engines of AES-128 side by side: on a chain of blocks, and on sheets tagged by one and verified by the other, for a full shelf of short
 // cards of each size. The library runs on the tables; the plain engine's tags are made and taken back here, from and to the sums of the
 // tagged rows that a session carries. `stdout` has what each line must say.
-use cipher::block;
+use blocks::block;
 use fips197::schedule;
 use trial::inputs;
 use trial::inputs::KEYS;
@@ -57,28 +57,48 @@ fn tag_schedule() -> [u8; 176] {
 }
 
 // A sheet's bytes with zeros for tags, and the tags of the sums by the plain engine over them.
-fn tagged_by_plain(sheet: [u8; 1336], t: usize, sums: &[u8]) -> [u8; 1336]
+fn tagged_by_plain(
+    sheet: [u8; files::tagfile::MOST],
+    t: usize,
+    sums: &[u8],
+) -> [u8; files::tagfile::MOST]
     requires { ⌜ (t ≤ 82) × (16 * t ≤ length (now sums)) ⌝ }
 {
     let mut out = sheet;
-    let zeros = [0u8; 1312];
+    let zeros = [0u8; sums::TAGS_MOST];
     let end = 16 * t;
-    inputs::put(&mut out, 8, &zeros[0..end]);
-    turn(tag_schedule(), true, t, sums, 0, &mut out, 8);
+    inputs::put(&mut out, files::tagfile::TAGS_AT, &zeros[0..end]);
+    turn(
+        tag_schedule(),
+        true,
+        t,
+        sums,
+        0,
+        &mut out,
+        files::tagfile::TAGS_AT,
+    );
     out
 }
 
 // The sums that the plain engine has back from a sheet; zeros behind them.
-fn sums_by_plain(sheet: &[u8], t: usize) -> [u8; 1312]
+fn sums_by_plain(sheet: &[u8], t: usize) -> [u8; sums::TAGS_MOST]
     requires { ⌜ (t ≤ 82) × (8 + 16 * t ≤ length (now sheet)) ⌝ }
 {
-    let mut out = [0u8; 1312];
-    turn(tag_schedule(), false, t, sheet, 8, &mut out, 0);
+    let mut out = [0u8; sums::TAGS_MOST];
+    turn(
+        tag_schedule(),
+        false,
+        t,
+        sheet,
+        files::tagfile::TAGS_AT,
+        &mut out,
+        0,
+    );
     out
 }
 
 // The sums of the tagged rows of a shelf of n cards; zeros behind them.
-fn sums_of(code: u64, n: u64, shelf: &[u8]) -> [u8; 1312] {
+fn sums_of(code: u64, n: u64, shelf: &[u8]) -> [u8; sums::TAGS_MOST] {
     let step = session::begin(&KEYS, code, n);
     let s = sessions::put_cards(step.session, shelf, n);
     s.sums
@@ -128,7 +148,7 @@ fn tables_tag(code: u64, n: u64, shelf: &[u8], altered: &[u8], sums: &[u8]) {
 fn cross(code: u64, n: u64, shelf: &[u8], altered: &[u8]) {
     let end = inputs::sheet_length(code);
     let t = (end - 24) / 16;
-    let mut sheet = [0u8; 1336];
+    let mut sheet = [0u8; files::tagfile::MOST];
     scheme::tag(&KEYS, code, shelf, &mut sheet);
     let other = tagged_by_plain(sheet, t, &sums_of(code, n, shelf));
     plain_tags(code, shelf, altered, &other[0..end]);

@@ -1,11 +1,11 @@
 -- Demand 2: a tag file is accepted under a seal key exactly when its bytes are what the writer lays out and seals for some size code, count
 -- and tags.
 use Rattle.fips197.proofs.Kit.{_≡_, refl, sym, ap, ap₂, _∙_, true, _&&_, List, [], _∷_, _++_, ℕ, zero, suc, _+_, _-_, _*_, _≤_, arith, eqb, leb, length, getD, take, drop, length-append, length-take, length-drop, take-append-drop, take-add, drop-cons, take-take, take-at, drop-at, take-nil, leb-true, le-leb, eqb-true, eq-eqb}
-use Rattle.cipher.specs.Block.{Bytes, same}
-use Rattle.cipher.specs.Number.{number, bigEndian}
+use Rattle.blocks.specs.Block.{Bytes, same}
+use Rattle.blocks.specs.Number.{number, bigEndian}
 use Rattle.cipher.specs.Cmac.{cmac}
-use Rattle.cipher.proofs.Xor.{same-true, same-eq, take-bytes, drop-bytes}
-use Rattle.cipher.proofs.Numbers.{bigEndian-number, number-bigEndian}
+use Rattle.blocks.proofs.Xor.{same-true, same-eq, take-bytes, drop-bytes}
+use Rattle.blocks.proofs.Numbers.{bigEndian-number, number-bigEndian}
 use Rattle.cipher.proofs.Laws.{cmac-length}
 use Rattle.sizes.specs.Sizes.{known, familyOf}
 use Rattle.sizes.proofs.Laws.{items-few}

@@ -1,8 +1,8 @@
 -- The message file: what each check of the code settles, and where the items of a file that is not refused lie.
 use Rattle.fips197.proofs.Kit.{_≡_, refl, sym, ap, ap₂, _∙_, Bool, true, false, _&&_, _⊎_, inl, inr, List, [], _∷_, ℕ, zero, suc, _+_, _-_, _≤_, _<_, not-suc-le-zero, le-of-suc-le-suc, eq-or-lt-of-le, add-one, arith, eqb, leb, length, getD, take, drop, drop-cons, RefT, now, ptr, leb-true, le-leb, lt-leb, eq-eqb, ne-eqb}
-use Rattle.cipher.specs.Block.{same}
-use Rattle.cipher.specs.Number.{number}
-use Rattle.cipher.proofs.Xor.{same-true, same-eq}
+use Rattle.blocks.specs.Block.{same}
+use Rattle.blocks.specs.Number.{number}
+use Rattle.blocks.proofs.Xor.{same-true, same-eq}
 use Rattle.files.specs.declared.Refusal.{Refusal}
 use Rattle.files.specs.Refusals.{refusal, none, unless, first}
 use Rattle.files.specs.Message.{number16, prefix, itemCount, behind, itemStart, itemSize, refuse3, itemFits, refuseItems, refuse5, refuse8, fetchRefusal, fetchStart, fetchSize, PartOf}

@@ -1,8 +1,8 @@
 -- The tag file: what each check of the code settles, and that what is accepted is what the writer lays out and seals.
 use Rattle.fips197.proofs.Kit.{_≡_, sym, ap, ap₂, _∙_, Bool, true, false, _&&_, List, ℕ, _-_, _≤_, _<_, arith, eqb, leb, length, take, drop, length-drop, take-all, le-leb, lt-leb}
-use Rattle.cipher.specs.Block.{same}
+use Rattle.blocks.specs.Block.{same}
 use Rattle.cipher.specs.Cmac.{cmac}
-use Rattle.cipher.proofs.Xor.{same-eq}
+use Rattle.blocks.proofs.Xor.{same-eq}
 use Rattle.sizes.specs.Sizes.{known, familyOf}
 use Rattle.files.specs.Refusals.{refusal, unless}
 use Rattle.files.specs.TagFile.{tagPrefix, codeOf, countOf, countFits, fileSize, macOf, bodyOf, refuse6, refuse20}

@@ -7,8 +7,8 @@ use Prim.Native.Nat.{ℕ, zero, suc, _+_, _-_, _≤_}
 use lib.Dec.{eqb, leb}
 use lib.ListN.{length, take, drop}
 use denote.Ref.{RefT, now, ptr}
-use Rattle.cipher.specs.Block.{if_then_else_, same}
-use Rattle.cipher.specs.Number.{number}
+use Rattle.blocks.specs.Block.{if_then_else_, same}
+use Rattle.blocks.specs.Number.{number}
 use Rattle.files.specs.declared.Refusal.{Refusal}
 use Rattle.files.specs.Refusals.{none, unless, passes, first}
 

@@ -6,8 +6,8 @@ use mathlib.Core.List.{List, [], _∷_, _++_}
 use Prim.Native.Nat.{ℕ, _+_, _-_, _*_, _≤_}
 use lib.Dec.{eqb, leb}
 use lib.ListN.{length, getD, take, drop}
-use Rattle.cipher.specs.Block.{Bytes, same}
-use Rattle.cipher.specs.Number.{bigEndian}
+use Rattle.blocks.specs.Block.{Bytes, same}
+use Rattle.blocks.specs.Number.{bigEndian}
 use Rattle.cipher.specs.Cmac.{cmac}
 use Rattle.sizes.specs.Sizes.{known, familyOf}
 use Rattle.files.specs.declared.Refusal.{Refusal}

@@ -2,7 +2,7 @@
 use crate::Refusal;
 use crate::arguments;
 use crate::refusals::first3;
-use cipher::block;
+use blocks::block;
 ghost use mathlib.Core.Path.{_≡_};
 ghost use Prim.Native.Nat.{_+_, _≤_, _<_};
 ghost use lib.ListN.{length};

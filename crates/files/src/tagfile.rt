@@ -3,7 +3,7 @@ use crate::Refusal;
 use crate::arguments;
 use crate::message::number16;
 use crate::refusals::unless;
-use cipher::block;
+use blocks::block;
 use cipher::cmac;
 ghost use mathlib.Core.Path.{_≡_};
 ghost use Prim.Native.Nat.{_+_, _≤_, _<_};

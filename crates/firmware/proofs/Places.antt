@@ -1,9 +1,9 @@
 -- Every refusal's place is at most 65,536, so it is read back whole from the number that C gets.
 use Rattle.fips197.proofs.Kit.{Bool, true, false, _&&_, List, [], _∷_, ℕ, zero, suc, _+_, _≤_, _<_, arith, eqb, leb, length, take, drop, length-take}
-use Rattle.cipher.specs.Block.{if_then_else_, Bytes, same}
+use Rattle.blocks.specs.Block.{if_then_else_, Bytes, same}
 use Rattle.cipher.specs.Cmac.{cmac}
-use Rattle.cipher.specs.Number.{numberOf, number}
-use Rattle.cipher.proofs.Xor.{take-bytes, drop-bytes}
+use Rattle.blocks.specs.Number.{numberOf, number}
+use Rattle.blocks.proofs.Xor.{take-bytes, drop-bytes}
 use Rattle.incidence.specs.Count.{inside}
 use Rattle.sizes.specs.Sizes.{known, familyOf}
 use Rattle.files.specs.declared.Refusal.{Refusal}

@@ -1,6 +1,6 @@
 -- The laws of `listed`: its length is the count, its members are those that pass, and they rise.
 use Rattle.fips197.proofs.Kit.{_≡_, refl, sym, ap, ap₂, _∙_, subst, Bool, true, false, List, [], _∷_, _++_, _⊎_, inl, inr, ℕ, zero, suc, _+_, _-_, _≤_, _<_, arith, length, getD, length-append, List·getD-append, getD-at}
-use Rattle.cipher.specs.Block.{if_then_else_}
+use Rattle.blocks.specs.Block.{if_then_else_}
 use Rattle.incidence.specs.Count.{indicator, countUpTo, listed}
 use Rattle.incidence.specs.Family.{Family, rowsOf, itemsOf}
 use Rattle.incidence.proofs.Counting.{last-or, count-before}

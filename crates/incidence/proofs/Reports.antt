@@ -1,6 +1,6 @@
 -- The three answers of a report, each with its case.
 use Rattle.fips197.proofs.Kit.{_≡_, refl, sym, ap, _∙_, Bool, true, false, not, _&&_, true≢false, _↔_, ℕ, _≤_, _<_, arith, eqb, leb, eqb-true, eqb-false, leb-true, leb-false, eq-eqb, ne-eqb, le-leb, lt-leb}
-use Rattle.cipher.specs.Block.{if_then_else_}
+use Rattle.blocks.specs.Block.{if_then_else_}
 use Rattle.incidence.specs.Report.{meaning, answerBy}
 use Rattle.incidence.specs.declared.Answer.{Answer}
 use Rattle.incidence.specs.declared.Answer.the-variants.{Intact, Named, Beyond}

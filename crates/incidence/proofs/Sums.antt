@@ -2,8 +2,8 @@
 -- message's row sums are had back from those of its tagged rows.
 use Rattle.fips197.proofs.Kit.{_≡_, refl, sym, ap, ap₂, _∙_, subst, Bool, true, false, List, [], _∷_, _⊎_, inl, inr, ℕ, zero, suc, _≤_, _<_, arith, eqb, length, getD, eqb-true, eqb-false}
 use mathlib.Core.Bool.{xor}
-use Rattle.cipher.specs.Block.{if_then_else_, _⊕_, zeros}
-use Rattle.cipher.proofs.Xor.{⊕-comm, ⊕-assoc, ⊕-length, ⊕-self, ⊕-zeros, ⊕-cancel}
+use Rattle.blocks.specs.Block.{if_then_else_, _⊕_, zeros}
+use Rattle.blocks.proofs.Xor.{⊕-comm, ⊕-assoc, ⊕-length, ⊕-self, ⊕-zeros, ⊕-cancel}
 use Rattle.incidence.specs.Family.{Family, Lawful, Earlier, parity}
 use Rattle.incidence.specs.Sum.{sumOver, rowSum, sumOf, expandedIn, expanded}
 use Rattle.incidence.proofs.Counting.{last-or}

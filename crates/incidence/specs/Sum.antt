@@ -4,7 +4,7 @@ use mathlib.Core.Bool.{Bool}
 use mathlib.Core.List.{List, [], _∷_}
 use Prim.Native.Nat.{ℕ, zero, suc}
 use lib.Dec.{eqb}
-use Rattle.cipher.specs.Block.{if_then_else_, _⊕_, zeros}
+use Rattle.blocks.specs.Block.{if_then_else_, _⊕_, zeros}
 use Rattle.incidence.specs.Family.{Family}
 
 -- the XOR of the values at those of the places 1 to n that p picks

@@ -1,15 +1,15 @@
 -- Hashes, masks and tags are blocks; a tag gives its sum back, and a sum its tag; what a key made ready or expanded gives is what the key
 -- gives; and the walks over many blocks.
 use Rattle.fips197.proofs.Kit.{_≡_, refl, ap, _∙_, List, _++_, ℕ, zero, suc, _+_, _*_, _≤_, _<_, arith, length, take, drop, length-take, length-drop}
-use Rattle.cipher.specs.Block.{Bytes, Block, _⊕_, zeros, slot, listOf}
-use Rattle.cipher.specs.Number.{bigEndian}
+use Rattle.blocks.specs.Block.{Bytes, Block, _⊕_, zeros, slot, listOf}
+use Rattle.blocks.specs.Number.{bigEndian}
 use Rattle.cipher.specs.Aes.{keyExpansion, cipher, invCipher, encipher, decipher}
 use Rattle.cipher.specs.Cmac.{ready}
 use Rattle.cipher.specs.declared.cmac.MacKey.{MacKey}
-use Rattle.cipher.proofs.Xor.{⊕-length, ⊕-block, ⊕-comm, block-cancel, zeros-block, append-bytes}
-use Rattle.cipher.proofs.Numbers.{bigEndian-bytes}
-use Rattle.cipher.proofs.Doubling.{double-block}
-use Rattle.cipher.proofs.Slots.{Front, slot-length, place-next, second-walk}
+use Rattle.blocks.proofs.Xor.{⊕-length, ⊕-block, ⊕-comm, block-cancel, zeros-block, append-bytes}
+use Rattle.blocks.proofs.Numbers.{bigEndian-bytes}
+use Rattle.blocks.proofs.Doubling.{double-block}
+use Rattle.blocks.proofs.Slots.{Front, slot-length, place-next, second-walk}
 use Rattle.cipher.proofs.Laws.{with-length, inv-with-length, encipher-block, decipher-block, encipher-length, decipher-length, decipher-encipher, encipher-decipher, cmac-block, mac-ready}
 use Rattle.keyed.specs.Keyed.{itemHash, itemHashBy, doubled, maskBy, tagBy, tagOf, sumBy, sumOfTag, tagsBy, sumsBy}
 

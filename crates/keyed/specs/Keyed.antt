@@ -3,9 +3,9 @@
 -- `deciph` its inverse. Assumes nothing.
 use mathlib.Core.List.{List, _++_}
 use Prim.Native.Nat.{ℕ, zero, suc}
-use Rattle.cipher.specs.Block.{_⊕_, zeros, slot, listOf}
-use Rattle.cipher.specs.Number.{bigEndian}
-use Rattle.cipher.specs.Double.{double}
+use Rattle.blocks.specs.Block.{_⊕_, zeros, slot, listOf}
+use Rattle.blocks.specs.Number.{bigEndian}
+use Rattle.blocks.specs.Double.{double}
 use Rattle.cipher.specs.Aes.{encipher, decipher}
 use Rattle.cipher.specs.Cmac.{cmac, macWith}
 use Rattle.cipher.specs.declared.cmac.MacKey.{MacKey}

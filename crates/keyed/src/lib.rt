@@ -1,14 +1,14 @@
 // The keyed functions of the scheme (000, section 4.3: F and G): an item's hash, tags from sums and back. Callers expand their keys once and
 // hand over what comes of it; each contract says what is given for anything handed over, and proofs/KeyedLaws.antt what that is for a key.
+use blocks::block;
 use cipher::aes;
-use cipher::block;
 use cipher::cmac;
 use cipher::cmac::MacKey;
 ghost use mathlib.Core.Path.{_≡_};
 ghost use mathlib.Core.List.{_++_};
 ghost use Prim.Native.Nat.{suc, _*_, _≤_};
 ghost use lib.ListN.{length, drop};
-ghost use Rattle.cipher.specs.Block.{_⊕_, slot, listOf};
+ghost use Rattle.blocks.specs.Block.{_⊕_, slot, listOf};
 ghost use Rattle.cipher.specs.Aes.{cipher, invCipher};
 ghost use Rattle.keyed.specs.Keyed.{itemHashBy, doubled, maskBy, tagsBy, sumsBy};
 

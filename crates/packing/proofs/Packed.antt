@@ -1,7 +1,7 @@
 -- The file of a list of items: it grows by one item with each append, it is not refused, and it holds the items in order.
 use Rattle.fips197.proofs.Kit.{_≡_, refl, sym, ap, ap₂, _∙_, true, List, [], _∷_, _++_, append-assoc, append-nil, ℕ, zero, suc, _+_, _-_, _≤_, _<_, add-one, arith, length, getD, take, drop, length-append, take-append-drop, take-all, take-suc, split-at, take-at, drop-at, le-leb}
-use Rattle.cipher.specs.Number.{number, bigEndian}
-use Rattle.cipher.proofs.Numbers.{bigEndian-length, number-bigEndian}
+use Rattle.blocks.specs.Number.{number, bigEndian}
+use Rattle.blocks.proofs.Numbers.{bigEndian-length, number-bigEndian}
 use Rattle.files.specs.Refusals.{none}
 use Rattle.files.specs.Message.{number16, prefix, itemCount, behind, itemStart, itemSize, item, refuse3, itemFits, refuseItems, refuse5}
 use Rattle.files.specs.Arguments.{refuse7}

@@ -1,7 +1,7 @@
 -- A run: `begin` and then appends, one after another, each behind the file so far. Where none is refused, the front of the buffer is the file
 -- of the items; and none is refused where the items fit one file and the buffer has room for it.
 use Rattle.fips197.proofs.Kit.{_≡_, refl, sym, ap, ap₂, _∙_, subst, _⊎_, inl, inr, List, [], _∷_, _++_, append-assoc, append-nil, ℕ, suc, _+_, _≤_, _<_, le-of-suc-le-suc, eq-or-lt-of-le, arith, length, getD, take, drop, length-append, length-drop, List·getD-append, take-at, drop-at, drop-drop, getD-append-seam, le-leb, lt-ltb}
-use Rattle.cipher.specs.Number.{bigEndian}
+use Rattle.blocks.specs.Number.{bigEndian}
 use Rattle.files.specs.Refusals.{none, first}
 use Rattle.files.specs.Message.{prefix, itemCount, refuse3}
 use Rattle.files.specs.Arguments.{refuse7, refuse9}

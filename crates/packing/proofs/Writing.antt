@@ -1,7 +1,7 @@
 -- Bytes put into a buffer: a copy byte by byte, and an item with its length behind a file whose count is raised.
 use Rattle.fips197.proofs.Kit.{_≡_, sym, ap, ap₂, _∙_, List, _++_, append-assoc, ℕ, _+_, _≤_, arith, length, take, drop, length-append, length-drop, take-append-drop, take-at, drop-at, take-append-le, drop-append-le, drop-drop, length-take-le}
-use Rattle.cipher.specs.Number.{number, bigEndian}
-use Rattle.cipher.proofs.Numbers.{bigEndian-length}
+use Rattle.blocks.specs.Number.{number, bigEndian}
+use Rattle.blocks.proofs.Numbers.{bigEndian-length}
 use Rattle.files.specs.Message.{number16, itemCount}
 use Rattle.packing.specs.Packing.{field, appended}
 

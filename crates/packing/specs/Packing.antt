@@ -4,8 +4,8 @@ use mathlib.Core.List.{List, [], _∷_, _++_}
 use Prim.Native.Nat.{ℕ, _+_}
 use lib.Dec.{leb, ltb}
 use lib.ListN.{length, take, drop}
-use Rattle.cipher.specs.Block.{if_then_else_}
-use Rattle.cipher.specs.Number.{bigEndian}
+use Rattle.blocks.specs.Block.{if_then_else_}
+use Rattle.blocks.specs.Number.{bigEndian}
 use Rattle.files.specs.declared.Refusal.{Refusal}
 use Rattle.files.specs.Refusals.{unless, passes, first}
 use Rattle.files.specs.Message.{prefix, itemCount, refuse3}

@@ -1,5 +1,5 @@
 // Packing: a message file (document 01: shelf) built in a lent buffer, one item (card) after another.
-use cipher::block;
+use blocks::block;
 use files::Refusal;
 use files::arguments;
 use files::message;

@@ -1,7 +1,7 @@
 -- The code's tables are the definitions' lists. A table is tested at each of the five places of a column; past the end both are empty.
 use Rattle.fips197.proofs.Kit.{_≡_, refl, sym, ap, _∙_, Bool, true, false, _&&_, List, [], _∷_, ℕ, zero, suc, _+_, _-_, _≤_, _<_, arith, eqb, ltb, leb, length, getD, take, drop, List·getD-eq-default, getD-take, getD-drop, ltb-true, ltb-false, leb-true, eqb-true}
-use Rattle.cipher.specs.Block.{same}
-use Rattle.cipher.proofs.Xor.{same-true}
+use Rattle.blocks.specs.Block.{same}
+use Rattle.blocks.proofs.Xor.{same-true}
 use Rattle.incidence.proofs.Booleans.{and-left, and-right}
 use Rattle.incidence.proofs.Counting.{every, every-at}
 use Rattle.plane.specs.Table.{itemCounts, planeItems, tagCounts, planeTags, limits, planeLimit, differenceLists, differences, patternLists, planePattern}

@@ -1,6 +1,6 @@
 -- The four planes are lawful families, with document 01's numbers: what the crates above use of them.
 use Rattle.fips197.proofs.Kit.{_≡_, refl, ap, _∙_, Bool, true, false, _&&_, ℕ, suc, _≤_, _<_, arith, leb, leb-true, leb-false, le-leb}
-use Rattle.cipher.specs.Block.{if_then_else_}
+use Rattle.blocks.specs.Block.{if_then_else_}
 use Rattle.incidence.specs.Count.{countUpTo}
 use Rattle.incidence.specs.Family.{Disjunct, Lawful}
 use Rattle.incidence.proofs.Pigeonhole.{pigeonhole}

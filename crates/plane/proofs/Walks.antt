@@ -1,7 +1,7 @@
 -- Where the rows of an item and the items of a row stand, in rising order, by ranks in the difference list.
 use Rattle.fips197.proofs.Kit.{_≡_, refl, sym, ap, _∙_, subst, Bool, true, false, _&&_, List, [], _++_, map, ℕ, zero, suc, _+_, _-_, _≤_, _<_, _%_, add-mod-right, mod-eq-of-lt, arith, ltb, leb, length, getD, drop, length-map, ltb-true, ltb-false, leb-true, leb-false, lt-ltb, le-ltb, le-leb, lt-leb}
-use Rattle.cipher.specs.Block.{if_then_else_}
-use Rattle.cipher.proofs.Loop.{map-at}
+use Rattle.blocks.specs.Block.{if_then_else_}
+use Rattle.blocks.proofs.Loop.{map-at}
 use Rattle.incidence.specs.Count.{indicator, countUpTo, listed, inside}
 use Rattle.incidence.specs.Family.{rowsOf, itemsOf}
 use Rattle.incidence.proofs.Counting.{inside-low, inside-high, count-ext}

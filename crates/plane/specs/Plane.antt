@@ -3,7 +3,7 @@ use mathlib.Core.Bool.{Bool, false, _&&_, _||_}
 use mathlib.Core.List.{List, [], _∷_, map}
 use Prim.Native.Nat.{ℕ, _+_, _-_, _%_}
 use lib.Dec.{eqb, ltb, leb}
-use Rattle.cipher.specs.Block.{if_then_else_}
+use Rattle.blocks.specs.Block.{if_then_else_}
 use Rattle.incidence.specs.Count.{indicator, inside}
 use Rattle.incidence.specs.Family.{Family}
 use Rattle.plane.specs.Table.{planeItems, planeTags, planeLimit, differences, planePattern}

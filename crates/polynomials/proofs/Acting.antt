@@ -2,7 +2,7 @@
 -- as sums, and x^k times a polynomial acts k places on.
 use Rattle.fips197.proofs.Kit.{_≡_, refl, sym, ap, ap₂, _∙_, Bool, true, false, _&&_, List, [], _∷_, _++_, ℕ, zero, suc, _+_, _≤_, _<_, arith, eqb, bitXor, length, getD, take, length-take}
 use mathlib.Core.Bool.{xor}
-use Rattle.cipher.specs.Block.{_⊕_, zeros}
+use Rattle.blocks.specs.Block.{_⊕_, zeros}
 use Rattle.incidence.specs.Count.{indicator}
 use Rattle.polynomials.specs.Polynomial.{longer, polySize, raised}
 use Rattle.polynomials.proofs.Sizes.{longer-most}

@@ -1,6 +1,6 @@
 -- Euclid's algorithm and long division, step by step: what is left to do gives what the whole gives.
 use Rattle.fips197.proofs.Kit.{_≡_, refl, sym, ap, ap₂, _∙_, Bool, true, false, _||_, List, ℕ, zero, suc, _+_, _-_, _≤_, _<_, arith, eqb, ltb, length, set, length-replicate, eq-eqb, ne-eqb, lt-ltb, le-ltb}
-use Rattle.cipher.specs.Block.{_⊕_, zeros}
+use Rattle.blocks.specs.Block.{_⊕_, zeros}
 use Rattle.incidence.proofs.Booleans.{or-first, or-second}
 use Rattle.polynomials.specs.Polynomial.{polySize, raised, less, gcdIn, gcd, quotientIn, quotient}
 use Rattle.polynomials.proofs.Raising.{raised-none}

@@ -1,7 +1,7 @@
 -- Long division, for any two polynomials: the divisor times the quotient and a rest that is shorter than the divisor add up to what was divided, as
 -- they act on any sequence; and the quotient's degree is the difference of the two degrees.
 use Rattle.fips197.proofs.Kit.{_≡_, refl, sym, ap, ap₂, _∙_, Bool, true, false, _||_, _&&_, xor, _⊎_, inl, inr, List, [], _∷_, ℕ, zero, suc, _+_, _-_, _≤_, _<_, arith, eqb, ltb, length, getD, set, length-set, length-replicate, getD-set-other, eqb-true, ltb-true, ltb-false}
-use Rattle.cipher.specs.Block.{zeros}
+use Rattle.blocks.specs.Block.{zeros}
 use Rattle.incidence.specs.Count.{indicator}
 use Rattle.incidence.proofs.Booleans.{or-cases}
 use Rattle.incidence.proofs.Counting.{bit-most}

@@ -1,8 +1,8 @@
 -- Euclid's algorithm, for any two polynomials: what sums and powers keep, its result keeps; it ends with one of the two 0; and the result takes to 0
 -- only sequences that both do.
 use Rattle.fips197.proofs.Kit.{_≡_, refl, sym, ap, ap₂, _∙_, subst, Bool, true, false, _||_, true≢false, _⊎_, inl, inr, List, [], _∷_, ℕ, zero, suc, _+_, _-_, _≤_, _<_, arith, eqb, ltb, length, eqb-true, eqb-false, ltb-true, ltb-false}
-use Rattle.cipher.specs.Block.{_⊕_, zeros}
-use Rattle.cipher.proofs.Xor.{⊕-comm, ⊕-zeros}
+use Rattle.blocks.specs.Block.{_⊕_, zeros}
+use Rattle.blocks.proofs.Xor.{⊕-comm, ⊕-zeros}
 use Rattle.incidence.proofs.Booleans.{or-cases}
 use Rattle.polynomials.specs.Polynomial.{polySize, raised, less, gcdIn}
 use Rattle.polynomials.proofs.Parity.{xor-same}

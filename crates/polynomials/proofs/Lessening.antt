@@ -1,7 +1,7 @@
 -- Sizes by coefficients, and that a step of long division makes a polynomial shorter.
 use Rattle.fips197.proofs.Kit.{_≡_, refl, sym, ap, ap₂, _∙_, Bool, true, false, List, [], _∷_, _++_, ℕ, zero, suc, _-_, _≤_, _<_, arith, eqb, ltb, bitXor, xor-lt, length, getD, take, List·getD-eq-default, eqb-true, eq-eqb, ltb-true, ltb-false}
-use Rattle.cipher.specs.Block.{_⊕_, zeros}
-use Rattle.cipher.proofs.Xor.{⊕-at}
+use Rattle.blocks.specs.Block.{_⊕_, zeros}
+use Rattle.blocks.proofs.Xor.{⊕-at}
 use Rattle.incidence.specs.Count.{indicator}
 use Rattle.incidence.proofs.Booleans.{not-both}
 use Rattle.polynomials.specs.Polynomial.{longer, polySize, raised, less}

@@ -1,8 +1,8 @@
 -- The laws of `raised`, and of a loop that adds a raised polynomial from its lowest term on.
 use Rattle.fips197.proofs.Kit.{_≡_, refl, sym, ap, ap₂, _∙_, List, [], _∷_, _++_, ℕ, zero, suc, _+_, _-_, _≤_, _<_, arith, bitXor, length, getD, set, take, drop, length-append, length-take, length-replicate, take-append-drop, take-length, take-take, take-at, getD-take, getD-append-add}
-use Rattle.cipher.specs.Block.{_⊕_, zeros}
-use Rattle.cipher.proofs.Xor.{⊕-at, ⊕-length, ⊕-zeros}
-use Rattle.cipher.proofs.Loop.{part, part-turn, part-read, part-done}
+use Rattle.blocks.specs.Block.{_⊕_, zeros}
+use Rattle.blocks.proofs.Xor.{⊕-at, ⊕-length, ⊕-zeros}
+use Rattle.blocks.proofs.Loop.{part, part-turn, part-read, part-done}
 use Rattle.polynomials.specs.Polynomial.{raised}
 
 pub raised-length : (k : ℕ) (q : List ℕ) → length (raised k q) ≡ length q

@@ -6,7 +6,7 @@ use mathlib.Core.List.{List, [], _∷_, _++_}
 use Prim.Native.Nat.{ℕ, zero, suc, _+_, _-_}
 use lib.Dec.{eqb, ltb}
 use lib.ListN.{length, take, set}
-use Rattle.cipher.specs.Block.{_⊕_, zeros}
+use Rattle.blocks.specs.Block.{_⊕_, zeros}
 use Rattle.incidence.specs.Count.{indicator}
 
 -- a coefficient c, and the n behind it that end in the last 1

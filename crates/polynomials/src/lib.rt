@@ -2,7 +2,7 @@
 ghost use mathlib.Core.Path.{_≡_};
 ghost use Prim.Native.Nat.{ℕ, suc, _≤_};
 ghost use lib.ListN.{length};
-ghost use Rattle.cipher.specs.Block.{_⊕_, zeros};
+ghost use Rattle.blocks.specs.Block.{_⊕_, zeros};
 ghost use Rattle.polynomials.specs.Polynomial.{polySize, raised, gcdIn, gcd, quotientIn, quotient};
 
 // How many coefficients there are up to the last 1.

@@ -1,6 +1,6 @@
 -- The lines of the named cards: one card more, and what is left to put.
 use Rattle.fips197.proofs.Kit.{_≡_, refl, sym, ap, Bool, true, false, List, [], _++_, ℕ, zero, suc, _+_, _≤_, _<_, arith, add-one, eqb, length, getD, length-append, eqb-true, eqb-false, eq-eqb, ne-eqb}
-use Rattle.cipher.specs.Block.{if_then_else_}
+use Rattle.blocks.specs.Block.{if_then_else_}
 use Rattle.printing.specs.Lines.{cardLine, cardPart, cardLines}
 
 pub part-none : (mark j : ℕ) → (mark ≡ 1 → ⊥) → [] ≡ cardPart mark j

@@ -1,7 +1,7 @@
 -- Numbers in decimal: their digits do not depend on how many are allowed, the last one stands behind those of n / 10, and how many there
 -- are.
 use Rattle.fips197.proofs.Kit.{_≡_, refl, sym, _∙_, ap, subst, Bool, true, false, List, [], _∷_, _++_, append-assoc, ℕ, zero, suc, _+_, _-_, _*_, _/_, _%_, _^_, _≤_, _<_, arith, add-one, pow-succ', eqb, ltb, length, take, drop, set, length-append, length-take, length-drop, drop-of-length-le, set-split, drop-at, take-all, ltb-true, ltb-false, eqb-false, eq-eqb, ne-eqb}
-use Rattle.cipher.specs.Block.{if_then_else_}
+use Rattle.blocks.specs.Block.{if_then_else_}
 use Rattle.printing.specs.Text.{digits, decimal}
 
 digits-enough : (f g n : ℕ) → n < f → n < g → digits f n ≡ digits g n

@@ -1,6 +1,6 @@
 -- How long the lines can be: no number of 64 bits has more than 20 digits.
 use Rattle.fips197.proofs.Kit.{_≡_, refl, Bool, true, false, List, [], _++_, ℕ, zero, suc, _+_, _*_, _^_, _≤_, _<_, String, arith, eqb, length, getD, length-append}
-use Rattle.cipher.specs.Block.{if_then_else_}
+use Rattle.blocks.specs.Block.{if_then_else_}
 use Rattle.incidence.specs.declared.Answer.{Answer}
 use Rattle.incidence.specs.declared.Answer.the-variants.{Intact, Named, Beyond}
 use Rattle.sizes.specs.Sizes.{familyOf}

@@ -5,7 +5,7 @@ use Prim.Native.Char.{code}
 use Prim.Native.String.{String, [] as end, _∷_ as _then_}
 use lib.Dec.{ltb}
 use lib.ListN.{length, take, drop}
-use Rattle.cipher.specs.Block.{if_then_else_}
+use Rattle.blocks.specs.Block.{if_then_else_}
 
 -- the codes of a text's characters
 unfoldable pub ascii : String → List ℕ

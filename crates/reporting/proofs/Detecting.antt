@@ -1,8 +1,8 @@
 -- Demand 3 of what is printed: where the first message is tagged and the second is a message of as many items, the lines are those of a report
 -- that is not refused (scheme, Guarantees), of which the demand holds (scheme, Claiming).
 use Rattle.fips197.proofs.Kit.{_≡_, refl, sym, ap, _∙_, Bool, true, List, ℕ, _≤_, arith, drop, le-leb}
-use Rattle.cipher.specs.Block.{if_then_else_, Bytes, zeros}
-use Rattle.cipher.proofs.Xor.{take-bytes, drop-bytes}
+use Rattle.blocks.specs.Block.{if_then_else_, Bytes, zeros}
+use Rattle.blocks.proofs.Xor.{take-bytes, drop-bytes}
 use Rattle.incidence.proofs.Booleans.{and-both}
 use Rattle.sizes.specs.Sizes.{familyOf}
 use Rattle.sizes.proofs.Laws.{items-few}

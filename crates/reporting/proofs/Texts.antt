@@ -1,7 +1,7 @@
 -- What each function puts is the text that its contract names: refused, or done.
 use Rattle.fips197.proofs.Kit.{_≡_, sym, ap, ap₂, _∙_, Bool, true, false, List, _++_, ℕ, _+_, _-_, arith, length, getD, take, drop, length-drop, take-at, take-all}
-use Rattle.cipher.specs.Block.{if_then_else_, zeros}
-use Rattle.cipher.proofs.Slots.{slot-length}
+use Rattle.blocks.specs.Block.{if_then_else_, zeros}
+use Rattle.blocks.proofs.Slots.{slot-length}
 use Rattle.incidence.specs.declared.Answer.{Answer}
 use Rattle.files.specs.declared.Refusal.{Refusal}
 use Rattle.files.specs.Message.{number16, itemCount, item}

@@ -4,7 +4,7 @@ use mathlib.Core.List.{List}
 use Prim.Native.Nat.{ℕ, _+_}
 use lib.Dec.{leb}
 use lib.ListN.{length, getD, take, drop}
-use Rattle.cipher.specs.Block.{if_then_else_, zeros}
+use Rattle.blocks.specs.Block.{if_then_else_, zeros}
 use Rattle.files.specs.Refusals.{passes}
 use Rattle.files.specs.Message.{number16, itemCount, item}
 use Rattle.files.specs.TagFile.{headFor}

@@ -1,8 +1,8 @@
 -- Demand 3 of Report: against an unaltered tag file, a row agrees where the XORs of its old and new hashes are equal; the rest is the
 -- detection theorem of crate incidence.
 use Rattle.fips197.proofs.Kit.{_≡_, refl, sym, ap, ap₂, _∙_, subst, Bool, true, false, not, List, [], _∷_, _++_, _⊎_, inl, inr, ℕ, zero, suc, _-_, _≤_, _<_, arith, le-of-suc-le-suc, eq-or-lt-of-le, eqb, length, getD, length-append, List·getD-append, getD-at}
-use Rattle.cipher.specs.Block.{Bytes, same}
-use Rattle.cipher.proofs.Xor.{same-true, same-eq}
+use Rattle.blocks.specs.Block.{Bytes, same}
+use Rattle.blocks.proofs.Xor.{same-true, same-eq}
 use Rattle.incidence.specs.Count.{countUpTo}
 use Rattle.incidence.specs.Count.{indicator}
 use Rattle.incidence.specs.Sum.{rowSum}

@@ -1,6 +1,6 @@
 -- The rows that the code compares agree as Report's definition says, and so does all that is decoded from them.
 use Rattle.fips197.proofs.Kit.{_≡_, refl, ap, ap₂, _∙_, Bool, List, [], _∷_, _++_, ℕ, zero, suc, _≤_, arith, drop}
-use Rattle.cipher.specs.Block.{same}
+use Rattle.blocks.specs.Block.{same}
 use Rattle.incidence.specs.Count.{indicator}
 use Rattle.incidence.specs.Sum.{rowSum, expanded}
 use Rattle.incidence.specs.Report.{named, numberNamed, disagreeing, answer}

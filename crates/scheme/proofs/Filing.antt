@@ -1,9 +1,9 @@
 -- From sums to files and back: what the calls write, and the sums that a file gives.
 use Rattle.fips197.proofs.Kit.{_≡_, refl, sym, ap, ap₂, _∙_, Bool, true, false, List, _++_, ℕ, suc, _+_, _-_, _*_, _≤_, _<_, arith, length, take, drop, length-append, length-take, length-drop, take-append-drop, take-at, drop-at}
-use Rattle.cipher.specs.Block.{if_then_else_, _⊕_, slot, listOf, same}
+use Rattle.blocks.specs.Block.{if_then_else_, _⊕_, slot, listOf, same}
 use Rattle.cipher.specs.Aes.{encipher, decipher}
-use Rattle.cipher.proofs.Xor.{same-true, same-eq}
-use Rattle.cipher.proofs.Slots.{slot-length, slot-front, listOf-length, listOf-ext, slot-listOf}
+use Rattle.blocks.proofs.Xor.{same-true, same-eq}
+use Rattle.blocks.proofs.Slots.{slot-length, slot-front, listOf-length, listOf-ext, slot-listOf}
 use Rattle.sizes.specs.Sizes.{familyOf}
 use Rattle.files.specs.Message.{itemCount, item}
 use Rattle.files.specs.TagFile.{headFor, fileSize, codeOf, countOf, headOf, tagsIn, Formed}

@@ -2,8 +2,8 @@
 -- verified, a report against an unaltered file is not refused, Replace is tagging afresh, and demand 3 is met by no report that names
 -- every item, none, or says "beyond" of an unchanged message.
 use Rattle.fips197.proofs.Kit.{_≡_, refl, sym, ap, ap₂, _∙_, Bool, true, false, List, [], _∷_, _++_, _↔_, ℕ, _≤_, _<_, arith, length, drop, eq-eqb, ne-eqb, le-leb}
-use Rattle.cipher.specs.Block.{if_then_else_, Bytes, _⊕_, same}
-use Rattle.cipher.proofs.Xor.{same-true, same-eq, take-bytes, drop-bytes, ⊕-assoc}
+use Rattle.blocks.specs.Block.{if_then_else_, Bytes, _⊕_, same}
+use Rattle.blocks.proofs.Xor.{same-true, same-eq, take-bytes, drop-bytes, ⊕-assoc}
 use Rattle.incidence.specs.Count.{countUpTo}
 use Rattle.incidence.specs.Family.{Family}
 use Rattle.incidence.specs.Sum.{rowSum}

@@ -1,8 +1,8 @@
 -- An unaltered tag file: what it says, that it is accepted, and that its tags give back the row sums of the items it was made of.
 use Rattle.fips197.proofs.Kit.{_≡_, refl, sym, ap, _∙_, Bool, true, false, List, [], append-nil, ℕ, zero, suc, _-_, _*_, _≤_, _<_, arith, leb, length, drop, leb-true}
-use Rattle.cipher.specs.Block.{if_then_else_, Bytes, Block, _⊕_, slot, listOf}
-use Rattle.cipher.proofs.Xor.{⊕-block, zeros-block, append-bytes, take-bytes, drop-bytes}
-use Rattle.cipher.proofs.Slots.{slot-length, listOf-length, slot-listOf}
+use Rattle.blocks.specs.Block.{if_then_else_, Bytes, Block, _⊕_, slot, listOf}
+use Rattle.blocks.proofs.Xor.{⊕-block, zeros-block, append-bytes, take-bytes, drop-bytes}
+use Rattle.blocks.proofs.Slots.{slot-length, listOf-length, slot-listOf}
 use Rattle.cipher.proofs.Laws.{cmac-length}
 use Rattle.incidence.specs.Sum.{sumOver, rowSum, expanded}
 use Rattle.incidence.proofs.Sums.{Values, expanded-ext, expanded-rowSum}

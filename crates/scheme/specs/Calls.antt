@@ -5,7 +5,7 @@ use mathlib.Core.List.{List, _++_}
 use Prim.Native.Nat.{ℕ, suc, _-_}
 use lib.Dec.{eqb}
 use lib.ListN.{length, drop}
-use Rattle.cipher.specs.Block.{if_then_else_, same, _⊕_, slot, listOf}
+use Rattle.blocks.specs.Block.{if_then_else_, same, _⊕_, slot, listOf}
 use Rattle.incidence.specs.Sum.{rowSum, expanded}
 use Rattle.incidence.specs.Report.{named, numberNamed, disagreeing, answer}
 use Rattle.incidence.specs.declared.Answer.{Answer}

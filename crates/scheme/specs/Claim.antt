@@ -6,7 +6,7 @@ use mathlib.Core.List.{List}
 use Prim.Native.Nat.{ℕ, _-_, _≤_}
 use lib.Dec.{eqb}
 use lib.ListN.{getD}
-use Rattle.cipher.specs.Block.{Bytes, same}
+use Rattle.blocks.specs.Block.{Bytes, same}
 use Rattle.incidence.specs.Count.{countUpTo}
 use Rattle.incidence.specs.Family.{Family}
 use Rattle.incidence.specs.Sum.{rowSum}

@@ -1,9 +1,9 @@
 -- Document 01, Bench cards: "Cases marked * are proved together as one table about the definitions." Assumes nothing.
 use mathlib.Core.Path.{_≡_}
 use mathlib.Core.List.{[], _∷_, _++_}
-use Rattle.cipher.specs.Block.{zeros}
+use Rattle.blocks.specs.Block.{zeros}
 use Rattle.cipher.specs.Aes.{sbox}
-use Rattle.cipher.specs.Double.{double}
+use Rattle.blocks.specs.Double.{double}
 use Rattle.sizes.specs.Cases.{PlaneCases}
 
 pub record Starred : Type 0 where

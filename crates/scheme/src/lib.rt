@@ -14,7 +14,7 @@ ghost use mathlib.Core.Path.{_≡_};
 ghost use mathlib.Core.List.{_++_};
 ghost use Prim.Native.Nat.{_*_, _≤_};
 ghost use lib.ListN.{length, drop};
-ghost use Rattle.cipher.specs.Block.{same};
+ghost use Rattle.blocks.specs.Block.{same};
 ghost use Rattle.incidence.specs.Report.{named, numberNamed, disagreeing, answer};
 ghost use Rattle.sizes.specs.Sizes.{familyOf};
 ghost use Rattle.files.specs.Message.{itemCount, item};

@@ -1,8 +1,8 @@
 -- The sums that a session carries: a value added to those of one item's tags.
 use Rattle.fips197.proofs.Kit.{_≡_, ap, _∙_, Bool, true, false, List, _++_, ℕ, suc, _-_, _*_, _≤_, _<_, arith, length, drop, length-append, length-drop, drop-at}
-use Rattle.cipher.specs.Block.{if_then_else_, _⊕_, slot, listOf}
-use Rattle.cipher.proofs.Xor.{⊕-length}
-use Rattle.cipher.proofs.Slots.{slot-length, slot-listOf, listOf-length, listOf-ext}
+use Rattle.blocks.specs.Block.{if_then_else_, _⊕_, slot, listOf}
+use Rattle.blocks.proofs.Xor.{⊕-length}
+use Rattle.blocks.proofs.Slots.{slot-length, slot-listOf, listOf-length, listOf-ext}
 use Rattle.sizes.specs.Sizes.{familyOf}
 use Rattle.sizes.proofs.Laws.{tags-few}
 use Rattle.sums.specs.Adding.{sumIn, Added}

@@ -1,7 +1,7 @@
 -- Which sessions a run of the calls can give: an open one or the closed one (`opens`), and of open ones every size code, count and number
 -- taken that `isOpen` lets through (`some-run`). So `isOpen` is exactly what document 01 says of it (`open-exactly`, `treated-as-closed`).
 use Rattle.fips197.proofs.Kit.{_≡_, refl, sym, ap, _∙_, subst, Bool, true, false, _&&_, List, [], _∷_, _⊎_, inl, inr, ⊎-elim, ℕ, zero, suc, _+_, _≤_, _<_, arith, eqb, leb, length, eqb-true, eqb-false, leb-true, le-leb}
-use Rattle.cipher.specs.Block.{zeros}
+use Rattle.blocks.specs.Block.{zeros}
 use Rattle.incidence.proofs.Booleans.{not-both, and-left, and-right, and-both}
 use Rattle.incidence.proofs.Counting.{inside-yes}
 use Rattle.sizes.specs.Sizes.{known, familyOf}

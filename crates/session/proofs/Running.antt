@@ -2,8 +2,8 @@
 -- end (`accepts`, `runs`); that Close then writes the file that Tag's rule gives for the items put (`closes`); and what a run cannot do:
 -- put one item more (`full`), close before the last (`early`), or go on after Close (`shut`).
 use Rattle.fips197.proofs.Kit.{_≡_, refl, sym, ap, _∙_, subst, true, List, _++_, _⊎_, inl, inr, ℕ, zero, suc, _+_, _≤_, _<_, le-of-suc-le-suc, eq-or-lt-of-le, add-one, arith, leb, length, drop, eq-eqb, ne-eqb, le-leb, lt-ltb, le-ltb}
-use Rattle.cipher.specs.Block.{zeros, slot}
-use Rattle.cipher.proofs.Slots.{slot-length}
+use Rattle.blocks.specs.Block.{zeros, slot}
+use Rattle.blocks.proofs.Slots.{slot-length}
 use Rattle.cipher.proofs.Laws.{cmac-length}
 use Rattle.sizes.specs.Sizes.{known, familyOf}
 use Rattle.sizes.proofs.Laws.{tags-few}

@@ -1,6 +1,6 @@
 -- One step: what its refusals tell of a session that passes them, and what it gives.
 use Rattle.fips197.proofs.Kit.{_≡_, true, _&&_, List, [], _∷_, ℕ, _+_, _≤_, _<_, arith, eqb, leb, ltb, length, eqb-true, leb-true, ltb-true}
-use Rattle.cipher.specs.Block.{zeros}
+use Rattle.blocks.specs.Block.{zeros}
 use Rattle.incidence.specs.Count.{inside}
 use Rattle.incidence.proofs.Counting.{inside-low, inside-high}
 use Rattle.sizes.specs.Sizes.{known, familyOf}

@@ -1,8 +1,8 @@
 -- A walk over the numbers that pass adds the value once to each sum: after k of them, to those that have fewer than k before them.
 use Rattle.fips197.proofs.Kit.{_≡_, refl, sym, ap, ap₂, _∙_, subst, Bool, true, false, _&&_, List, _++_, ℕ, zero, suc, _+_, _-_, _*_, _≤_, _<_, arith, ltb, eqb, length, getD, take, drop, drop-length, drop-cons, lt-ltb, le-ltb, ltb-true, ltb-false, eqb-true, eqb-false, eq-eqb, ne-eqb}
-use Rattle.cipher.specs.Block.{if_then_else_, _⊕_, slot, zeros}
-use Rattle.cipher.proofs.Xor.{⊕-length}
-use Rattle.cipher.proofs.Slots.{written, written-length, slot-here, slot-before, slot-after, drop-after, slot-length}
+use Rattle.blocks.specs.Block.{if_then_else_, _⊕_, slot, zeros}
+use Rattle.blocks.proofs.Xor.{⊕-length}
+use Rattle.blocks.proofs.Slots.{written, written-length, slot-here, slot-before, slot-after, drop-after, slot-length}
 use Rattle.incidence.specs.Count.{countUpTo, listed}
 use Rattle.incidence.specs.Sum.{sumOf, expanded}
 use Rattle.incidence.specs.Family.{Family, Lawful, rowsOf}

@@ -5,7 +5,7 @@ use mathlib.Core.List.{List, _++_}
 use Prim.Native.Nat.{ℕ, zero, suc, _+_, _-_, _*_, _≤_}
 use lib.Dec.{eqb}
 use lib.ListN.{length, take, drop}
-use Rattle.cipher.specs.Block.{if_then_else_, _⊕_, slot}
+use Rattle.blocks.specs.Block.{if_then_else_, _⊕_, slot}
 use Rattle.incidence.specs.Family.{Family}
 use Rattle.incidence.specs.Sum.{sumOf}
 

@@ -1,5 +1,5 @@
 // Arrays of sums: an item's value added to the sums of its rows, by a walk over them.
-use cipher::block;
+use blocks::block;
 ghost use mathlib.Core.Path.{_≡_};
 ghost use mathlib.Core.Bool.{true};
 ghost use Prim.Native.Nat.{_*_, _≤_};

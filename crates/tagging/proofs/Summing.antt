@@ -1,6 +1,6 @@
 -- A walk over items adds each value to the sums of its rows: after k items, the sums are those of the first k.
 use Rattle.fips197.proofs.Kit.{_≡_, refl, sym, ap, ap₂, _∙_, subst, Bool, List, _∷_, _++_, ℕ, zero, suc, _+_, _-_, _*_, _≤_, _<_, arith, add-one, length, take, drop, take-add, take-append-drop}
-use Rattle.cipher.specs.Block.{if_then_else_, _⊕_, zeros, slot, listOf}
+use Rattle.blocks.specs.Block.{if_then_else_, _⊕_, zeros, slot, listOf}
 use Rattle.cipher.specs.Cmac.{ready}
 use Rattle.cipher.specs.declared.cmac.MacKey.{MacKey}
 use Rattle.incidence.specs.Family.{Family}

@@ -1,10 +1,10 @@
 -- Header, tags and MAC written one behind the other are the tag file.
 use Rattle.fips197.proofs.Kit.{_≡_, refl, sym, ap, ap₂, _∙_, List, _++_, append-assoc, ℕ, suc, _+_, _-_, _*_, _≤_, arith, length, take, drop, length-append, length-take, length-drop, take-at, drop-at, drop-drop}
-use Rattle.cipher.specs.Block.{slot, listOf}
-use Rattle.cipher.specs.Number.{bigEndian}
+use Rattle.blocks.specs.Block.{slot, listOf}
+use Rattle.blocks.specs.Number.{bigEndian}
 use Rattle.cipher.specs.Aes.{encipher}
 use Rattle.cipher.specs.Cmac.{cmac}
-use Rattle.cipher.proofs.Slots.{listOf-length, listOf-ext}
+use Rattle.blocks.proofs.Slots.{listOf-length, listOf-ext}
 use Rattle.cipher.proofs.Laws.{cmac-length}
 use Rattle.sizes.specs.Sizes.{familyOf}
 use Rattle.files.specs.declared.tagfile.Head.{Head}

@@ -2,7 +2,7 @@
 -- are numbered from 1; `items j` is the bytes of item j. Assumes nothing.
 use mathlib.Core.List.{List}
 use Prim.Native.Nat.{ℕ, suc}
-use Rattle.cipher.specs.Block.{slot, listOf}
+use Rattle.blocks.specs.Block.{slot, listOf}
 use Rattle.incidence.specs.Sum.{rowSum}
 use Rattle.sizes.specs.Sizes.{familyOf}
 use Rattle.files.specs.declared.tagfile.Head.{Head}

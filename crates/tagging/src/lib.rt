@@ -1,7 +1,7 @@
 // Tag's rule (000, section 4.3): the items' hashes added to the sums of their rows, and a tag file written from sums. Sessions and the
 // calls on whole messages rest on these.
+use blocks::block;
 use cipher::aes;
-use cipher::block;
 use cipher::cmac;
 use cipher::cmac::MacKey;
 use files::message;
@@ -14,7 +14,7 @@ ghost use mathlib.Core.Bool.{true};
 ghost use mathlib.Core.List.{_++_};
 ghost use Prim.Native.Nat.{ℕ, _*_, _≤_};
 ghost use lib.ListN.{length, drop};
-ghost use Rattle.cipher.specs.Block.{zeros};
+ghost use Rattle.blocks.specs.Block.{zeros};
 ghost use Rattle.incidence.specs.Sum.{rowSum};
 ghost use Rattle.sizes.specs.Sizes.{known, familyOf};
 ghost use Rattle.files.specs.Refusals.{none};

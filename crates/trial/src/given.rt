@@ -94,7 +94,7 @@ pub fn part(bytes: &[u8], a: usize, n: u64) -> &[u8] {
 fn put_sheet(bytes: &mut [u8], size: u64, n: u64)
     requires { ⌜ 72192 ≤ length (now bytes) ⌝ }
 {
-    let mut sheet = [0u8; 1336];
+    let mut sheet = [0u8; files::tagfile::MOST];
     scheme::tag(&inputs::KEYS, size, part(bytes, SHELF, n), &mut sheet);
     inputs::put(bytes, 67584, &sheet);
 }

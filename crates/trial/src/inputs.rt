@@ -1,5 +1,5 @@
 // The keys and shelves that the cases start from.
-use cipher::block;
+use blocks::block;
 ghost use Prim.Native.Nat.{_+_, _*_, _≤_};
 ghost use lib.ListN.{length};
 

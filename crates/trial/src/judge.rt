@@ -46,7 +46,7 @@ pub fn closed(s: Session) -> bool {
         count: 0,
         taken: 0,
         keys,
-        sums: [0u8; 1312],
+        sums: [0u8; sums::TAGS_MOST],
     };
     same(s, none)
 }

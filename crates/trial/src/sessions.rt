@@ -17,7 +17,7 @@ pub fn put_cards(begun: Session, shelf: &[u8], k: u64) -> Session {
 
 // What a close gives, whether it refuses or not.
 fn closed(s: Session) -> Session {
-    let mut out = [0u8; 1336];
+    let mut out = [0u8; files::tagfile::MOST];
     let step = s.close(&mut out);
     step.session
 }

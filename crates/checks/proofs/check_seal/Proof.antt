@@ -1,6 +1,6 @@
 -- The seal key is the third of a bundle.
 use Rattle.fips197.proofs.Kit.{arith, needs}
-use Rattle.cipher.specs.Block.{slot}
+use Rattle.blocks.specs.Block.{slot}
 use Rattle.tagging.specs.Tagging.{keysIn}
 use Rattle.checks.proofs.Checking.{keys-long}
 use Rattle.checks.proofs.check_seal.Statement.{statement}

@@ -1,6 +1,6 @@
 -- The two sums, compared.
 use Rattle.fips197.proofs.Kit.{ap₂, _∙_, needs}
-use Rattle.cipher.specs.Block.{same, slot}
+use Rattle.blocks.specs.Block.{same, slot}
 use Rattle.sums.specs.Adding.{sumIn}
 use Rattle.decoding.specs.Decoding.{agreesIn}
 use Rattle.decoding.proofs.agree.Statement.{statement}

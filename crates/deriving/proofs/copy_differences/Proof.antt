@@ -1,6 +1,6 @@
 -- Each turn stores one member (cipher's Loop).
 use Rattle.fips197.proofs.Kit.{_≡_, refl, _-_, _≤_, _<_, arith, length, now, needs}
-use Rattle.cipher.proofs.Loop.{part, part-turn, part-front}
+use Rattle.blocks.proofs.Loop.{part, part-turn, part-front}
 use Rattle.plane.specs.Table.{differences}
 use Rattle.plane.proofs.Lookup.{differences-few}
 use Rattle.deriving.proofs.Members.{member-small}

@@ -1,8 +1,8 @@
 -- Each turn adds the next mask to one block; those before it stay, and those behind it are still as they were (Slots).
 use Rattle.fips197.proofs.Kit.{_≡_, refl, sym, ap, _∙_, suc, _-_, _≤_, arith, add-one, length, needs}
-use Rattle.cipher.specs.Block.{_⊕_, slot}
-use Rattle.cipher.specs.Double.{double}
-use Rattle.cipher.proofs.Slots.{Front, front-first, front-done}
+use Rattle.blocks.specs.Block.{_⊕_, slot}
+use Rattle.blocks.specs.Double.{double}
+use Rattle.blocks.proofs.Slots.{Front, front-first, front-done}
 use Rattle.keyed.specs.Keyed.{doubled}
 use Rattle.keyed.proofs.KeyedLaws.{masks-next}
 use Rattle.keyed.proofs.add_masks.Statement.{statement}

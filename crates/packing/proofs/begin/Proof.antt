@@ -1,6 +1,6 @@
 -- The seven bytes of the file without items where there is room, else all as it was (Refusing).
 use Rattle.fips197.proofs.Kit.{_∙_, [], _++_, arith, length, drop, needs}
-use Rattle.cipher.specs.Number.{bigEndian}
+use Rattle.blocks.specs.Number.{bigEndian}
 use Rattle.files.specs.Message.{prefix}
 use Rattle.files.proofs.Passing.{given, kept}
 use Rattle.packing.specs.Packing.{fields, messageOf, beginFileRefusal, beginFileWrites}

@@ -1,6 +1,6 @@
 -- The part from the place on comes back with the text in front (Loop).
 use Rattle.fips197.proofs.Kit.{needs}
-use Rattle.cipher.proofs.Loop.{part-copied}
+use Rattle.blocks.proofs.Loop.{part-copied}
 use Rattle.packing.proofs.put.Statement.{statement}
 use Rattle.packing.proofs.put.Tie as tie
 

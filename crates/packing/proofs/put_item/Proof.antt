@@ -1,6 +1,6 @@
 -- Three puts, one after another (Writing).
 use Rattle.fips197.proofs.Kit.{ap, _∙_, ℕ, _+_, arith, needs}
-use Rattle.cipher.specs.Number.{bigEndian}
+use Rattle.blocks.specs.Number.{bigEndian}
 use Rattle.packing.proofs.Writing.{count-read, item-put}
 use Rattle.packing.proofs.put_item.Statement.{statement}
 use Rattle.packing.proofs.put_item.Tie as tie

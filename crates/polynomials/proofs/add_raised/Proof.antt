@@ -1,7 +1,7 @@
 -- From x^k on, each turn adds one coefficient (Raising).
 use Rattle.fips197.proofs.Kit.{_≡_, _-_, _≤_, length, needs}
-use Rattle.cipher.specs.Block.{_⊕_}
-use Rattle.cipher.proofs.Loop.{part}
+use Rattle.blocks.specs.Block.{_⊕_}
+use Rattle.blocks.proofs.Loop.{part}
 use Rattle.polynomials.specs.Polynomial.{raised}
 use Rattle.polynomials.proofs.Raising.{sum-begun, sum-next, sum-done}
 use Rattle.polynomials.proofs.add_raised.Statement.{statement}

@@ -1,6 +1,6 @@
 -- Refused, or decoded (Filing); and demand 3 (Claiming).
 use Rattle.fips197.proofs.Kit.{_∙_, arith, length, needs}
-use Rattle.cipher.proofs.Xor.{bytes-from}
+use Rattle.blocks.proofs.Xor.{bytes-from}
 use Rattle.scheme.specs.Calls.{reportWrites, reportAnswer, reportNamed, reportRows}
 use Rattle.checks.proofs.Checking.{reportable}
 use Rattle.files.proofs.Passing.{given, kept}

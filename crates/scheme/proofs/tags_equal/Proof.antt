@@ -1,6 +1,6 @@
 -- The tags of the sums, compared with those of the file (Filing).
 use Rattle.fips197.proofs.Kit.{_≡_, refl, ap, ap₂, _∙_, ℕ, _+_, _*_, _≤_, arith, length, needs}
-use Rattle.cipher.specs.Block.{same, zeros}
+use Rattle.blocks.specs.Block.{same, zeros}
 use Rattle.sizes.specs.Sizes.{known, familyOf}
 use Rattle.sizes.proofs.Laws.{tags-few}
 use Rattle.files.specs.declared.tagfile.Head.{Head}

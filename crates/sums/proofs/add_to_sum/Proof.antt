@@ -1,6 +1,6 @@
 -- One sum is written, or none.
 use Rattle.fips197.proofs.Kit.{_∙_, arith, needs}
-use Rattle.cipher.specs.Block.{slot}
+use Rattle.blocks.specs.Block.{slot}
 use Rattle.sums.proofs.Walking.{added-none, added-some}
 use Rattle.sums.proofs.add_to_sum.Statement.{statement}
 use Rattle.sums.proofs.add_to_sum.Tie as tie

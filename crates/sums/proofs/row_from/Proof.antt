@@ -1,6 +1,6 @@
 -- By whether the row has a tag (Walking).
 use Rattle.fips197.proofs.Kit.{sym, _∙_, arith, needs}
-use Rattle.cipher.specs.Block.{slot}
+use Rattle.blocks.specs.Block.{slot}
 use Rattle.sizes.specs.Sizes.{familyOf}
 use Rattle.sizes.proofs.Laws.{tags-few, lawful}
 use Rattle.sums.specs.Adding.{sumIn}

@@ -1,6 +1,6 @@
 -- From the last to the first, each turn adds one row (Walking).
 use Rattle.fips197.proofs.Kit.{_≡_, ap, _∙_, List, ℕ, _-_, _≤_, arith, length, drop, needs}
-use Rattle.cipher.specs.Block.{_⊕_, slot}
+use Rattle.blocks.specs.Block.{_⊕_, slot}
 use Rattle.incidence.specs.Sum.{sumOf}
 use Rattle.incidence.proofs.Sums.{earlier-at}
 use Rattle.sizes.specs.Sizes.{familyOf}

@@ -1,6 +1,6 @@
 -- Three blocks, one after another.
 use Rattle.fips197.proofs.Kit.{needs}
-use Rattle.cipher.specs.Block.{slot}
+use Rattle.blocks.specs.Block.{slot}
 use Rattle.tagging.proofs.Summing.{keys-made}
 use Rattle.tagging.proofs.keys_in.Statement.{statement}
 use Rattle.tagging.proofs.keys_in.Tie as tie

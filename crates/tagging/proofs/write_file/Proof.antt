@@ -1,7 +1,7 @@
 -- Header, tags and MAC, one behind the other (Writing).
 use Rattle.fips197.proofs.Kit.{_≡_, List, _++_, ℕ, _+_, _-_, _*_, _≤_, arith, length, take, drop, length-take, length-drop, putMid, needs}
 use Rattle.cipher.specs.Aes.{encipher}
-use Rattle.cipher.proofs.Loop.{part-back}
+use Rattle.blocks.proofs.Loop.{part-back}
 use Rattle.sizes.proofs.Laws.{code-byte, items-few, tags-few}
 use Rattle.keyed.specs.Keyed.{tagsBy}
 use Rattle.keyed.proofs.KeyedLaws.{tags-expanded}

@@ -2,9 +2,9 @@
 -- any whose deciphering schedule the words are.
 use Rattle.fips197.proofs.Kit.{_≡_, refl, List, ℕ, _-_, _≤_, arith, length, needs}
 use Rattle.tables.specs.RoundTables.{DecipherWords}
-use Rattle.cipher.specs.Block.{slot}
+use Rattle.blocks.specs.Block.{slot}
 use Rattle.cipher.specs.Aes.{invCipher}
-use Rattle.cipher.proofs.Slots.{Front, front-first, place-next, front-done}
+use Rattle.blocks.proofs.Slots.{Front, front-first, place-next, front-done}
 use Rattle.cipher.proofs.aes.decipher_blocks.Statement.{statement}
 use Rattle.cipher.proofs.aes.decipher_blocks.Tie as tie
 

@@ -1,6 +1,6 @@
 -- With the expanded key; then the inverse law, over a key of 16 bytes (Laws).
 use Rattle.fips197.proofs.Kit.{needs}
-use Rattle.cipher.specs.Block.{Block}
+use Rattle.blocks.specs.Block.{Block}
 use Rattle.fips197.proofs.Laws.{block-of, enciphered}
 use Rattle.cipher.proofs.aes.encipher.Statement.{statement}
 use Rattle.cipher.proofs.aes.encipher.Tie as tie

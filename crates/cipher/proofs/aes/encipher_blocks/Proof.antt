@@ -1,8 +1,8 @@
 -- Each turn enciphers one block in its place; those before it stay, and those behind it are still as they were (Slots).
 use Rattle.fips197.proofs.Kit.{_≡_, _-_, _≤_, arith, length, needs}
-use Rattle.cipher.specs.Block.{slot}
+use Rattle.blocks.specs.Block.{slot}
 use Rattle.cipher.specs.Aes.{cipher}
-use Rattle.cipher.proofs.Slots.{Front, front-first, place-next, front-done}
+use Rattle.blocks.proofs.Slots.{Front, front-first, place-next, front-done}
 use Rattle.cipher.proofs.aes.encipher_blocks.Statement.{statement}
 use Rattle.cipher.proofs.aes.encipher_blocks.Tie as tie
 

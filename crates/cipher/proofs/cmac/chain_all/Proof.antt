@@ -1,6 +1,6 @@
 -- Each turn takes a block of the second part into the chain (Chain).
 use Rattle.fips197.proofs.Kit.{_≡_, refl, ap, _∙_, List, _++_, ℕ, _+_, _-_, _/_, _%_, _≤_, _<_, arith, length, needs}
-use Rattle.cipher.specs.Block.{_⊕_}
+use Rattle.blocks.specs.Block.{_⊕_}
 use Rattle.cipher.specs.Aes.{cipher}
 use Rattle.cipher.specs.Cmac.{chain}
 use Rattle.cipher.proofs.Chain.{chain-more, in-second}

@@ -1,6 +1,6 @@
 -- By its length (Chain).
 use Rattle.fips197.proofs.Kit.{_≡_, ap, _∙_, List, _++_, ℕ, _+_, arith, length, length-append, needs}
-use Rattle.cipher.specs.Block.{_⊕_}
+use Rattle.blocks.specs.Block.{_⊕_}
 use Rattle.cipher.proofs.Chain.{last-whole, last-padded}
 use Rattle.cipher.proofs.cmac.last_block.Statement.{statement}
 use Rattle.cipher.proofs.cmac.last_block.Tie as tie

@@ -1,6 +1,6 @@
 -- The chain over all blocks but the last, and then the last (Chain).
 use Rattle.fips197.proofs.Kit.{_≡_, ap, _∙_, List, _++_, ℕ, _+_, arith, length, length-append, needs}
-use Rattle.cipher.specs.Block.{_⊕_}
+use Rattle.blocks.specs.Block.{_⊕_}
 use Rattle.cipher.specs.Aes.{cipher}
 use Rattle.cipher.proofs.Chain.{mac-last}
 use Rattle.cipher.specs.Cmac.{macWith}

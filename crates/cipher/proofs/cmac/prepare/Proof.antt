@@ -2,8 +2,8 @@
 use Rattle.fips197.proofs.Kit.{ap, _∙_, needs}
 use Rattle.cipher.specs.Cmac.{subkey1, subkey2, ready}
 use Rattle.cipher.proofs.Laws.{encipher-is}
-use Rattle.cipher.specs.Double.{double}
-use Rattle.cipher.specs.Block.{zeros}
+use Rattle.blocks.specs.Double.{double}
+use Rattle.blocks.specs.Block.{zeros}
 use Rattle.cipher.proofs.cmac.prepare.Statement.{statement}
 use Rattle.cipher.proofs.cmac.prepare.Tie as tie
 

@@ -1,6 +1,6 @@
 -- Each turn reads one byte of the two parts (Loop).
 use Rattle.fips197.proofs.Kit.{_≡_, refl, sym, _∙_, _++_, _-_, _≤_, arith, length, take, drop, length-append, length-drop, length-take, getD-take, getD-drop, needs}
-use Rattle.cipher.proofs.Loop.{part, part-turn, part-done}
+use Rattle.blocks.proofs.Loop.{part, part-turn, part-done}
 use Rattle.cipher.proofs.parts.across.Statement.{statement}
 use Rattle.cipher.proofs.parts.across.Tie as tie
 

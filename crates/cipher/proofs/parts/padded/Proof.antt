@@ -1,9 +1,9 @@
 -- Each turn reads one byte of what is left; then the mark, and the zeros that were there (Chain).
 use Rattle.fips197.proofs.Kit.{_≡_, refl, sym, ap, _∙_, _++_, ℕ, _+_, _-_, _≤_, arith, length, getD, drop, length-append, length-drop, getD-drop, needs}
-use Rattle.cipher.proofs.Loop.{part, part-turn}
+use Rattle.blocks.proofs.Loop.{part, part-turn}
 use Rattle.cipher.proofs.Chain.{padded-length, padded-at, padded-mark, padded-end}
 use Rattle.cipher.specs.Cmac.{padded}
-use Rattle.cipher.specs.Block.{zeros}
+use Rattle.blocks.specs.Block.{zeros}
 use Rattle.cipher.proofs.parts.padded.Statement.{statement}
 use Rattle.cipher.proofs.parts.padded.Tie as tie
 

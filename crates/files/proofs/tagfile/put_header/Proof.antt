@@ -1,7 +1,7 @@
 -- Eight stores, the count as to_be16 gives it.
 use Rattle.fips197.proofs.Kit.{_∙_, [], _∷_, _++_, arith, getD, drop, length-set, sets-eq, needs}
 use Rattle.files.specs.TagFile.{header, tagPrefix}
-use Rattle.cipher.specs.Number.{bigEndian}
+use Rattle.blocks.specs.Number.{bigEndian}
 use Rattle.files.proofs.tagfile.put_header.Statement.{statement}
 use Rattle.files.proofs.tagfile.put_header.Tie as tie
 

@@ -1,7 +1,7 @@
 -- The part behind the first n bytes comes back with their MAC in front.
 use Rattle.fips197.proofs.Kit.{_≡_, ap, _∙_, List, _++_, ℕ, _+_, _-_, arith, take, drop, needs}
 use Rattle.cipher.specs.Cmac.{cmac}
-use Rattle.cipher.proofs.Loop.{part-back}
+use Rattle.blocks.proofs.Loop.{part-back}
 use Rattle.files.proofs.tagfile.seal.Statement.{statement}
 use Rattle.files.proofs.tagfile.seal.Tie as tie
 

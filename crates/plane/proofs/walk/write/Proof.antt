@@ -1,6 +1,6 @@
 -- Each turn stores one number (cipher's Loop).
 use Rattle.fips197.proofs.Kit.{_≡_, refl, sym, _-_, _≤_, arith, length, needs}
-use Rattle.cipher.proofs.Loop.{part, part-turn, part-front}
+use Rattle.blocks.proofs.Loop.{part, part-turn, part-front}
 use Rattle.plane.specs.Walk.{along}
 use Rattle.plane.proofs.Walks.{few, walk-length}
 use Rattle.plane.proofs.walk.write.Statement.{statement}
