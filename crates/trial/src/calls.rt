@@ -33,12 +33,6 @@ fn wrote(out: &[u8]) {
     say::number(judge::written(out) as u64);
 }
 
-// Whether Verify says yes of the sheet that was made.
-fn verified(keys: &[u8], shelf: &[u8], sheet: &[u8]) {
-    let v = scheme::verify(keys, shelf, sheet);
-    say::either(v.yes, b", Verify says yes", b", Verify says no");
-}
-
 // Whether the buffer is as Tag leaves it for this shelf.
 fn compared(keys: &[u8], size: u64, shelf: &[u8], out: &[u8]) {
     let mut tags = [0xa5u8; 1400];
@@ -47,20 +41,22 @@ fn compared(keys: &[u8], size: u64, shelf: &[u8], out: &[u8]) {
     say::either(same, b", equals Tag's", b", differs from Tag's");
 }
 
-fn tag(keys: &[u8], size: u64, shelf: &[u8], out: &mut [u8]) {
-    let r = scheme::tag(keys, size, shelf, out);
-    say::outcome(r);
-    wrote(out);
-    if r.number == 0 {
-        verified(keys, shelf, front(out, inputs::sheet_length(size)));
-    }
-}
-
 fn verify(keys: &[u8], shelf: &[u8], sheet: &[u8]) {
     let v = scheme::verify(keys, shelf, sheet);
     let r = v.refused;
     say::outcome(r);
     say::either(v.yes, b", yes", b", no");
+}
+
+// Tag, and Verify of what it wrote.
+fn tag(keys: &[u8], size: u64, shelf: &[u8], out: &mut [u8]) {
+    let r = scheme::tag(keys, size, shelf, out);
+    say::outcome(r);
+    wrote(out);
+    if r.number == 0 {
+        say::text(b", Verify");
+        verify(keys, shelf, front(out, inputs::sheet_length(size)));
+    }
 }
 
 fn report(keys: &[u8], shelf: &[u8], sheet: &[u8], out: &mut [u8]) {
