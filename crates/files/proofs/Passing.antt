@@ -71,10 +71,6 @@ number-of r q e h = ap (λ (x : Refusal). x .number) (sym e) ∙ h
 pub stop : (r q : Refusal) (rest : List Refusal) → r ≡ q → (r .number ≡ 0 → ⊥) → r ≡ first (q ∷ rest)
 stop r q rest e h = e ∙ sym (first-here q rest (λ z. h (number-of q r (sym e) z)))
 
--- one that passes leaves the rest
-pub skip : (r q : Refusal) (rest : List Refusal) → r ≡ q → r .number ≡ 0 → first (q ∷ rest) ≡ first rest
-skip r q rest e h = first-past q rest (number-of r q e h)
-
 -- ---- runs of checks in a list
 
 pub here : (r : Refusal) (rest : List Refusal) → (r .number ≡ 0 → ⊥) → r ≡ first (r ∷ rest)

@@ -71,9 +71,3 @@ module _ (F : Family) (j k : ℕ) where
   pub itemsOf-at : k < length (itemsOf F j) → Member (F .on j) (F .items) k (getD (itemsOf F j) k 0)
   unfolding itemsOf
   itemsOf-at h = listed-at (F .on j) (F .items) k (omega (arith, listed-length (F .on j) (F .items)))
-
--- each is listed, and once: at the place that counts those before it
-module _ (F : Family) (i j : ℕ) (l : 1 ≤ i) (o : F .on i j ≡ true) where
-  pub rowsOf-rank : i ≤ F .rows → getD (rowsOf F j) (countUpTo (λ r. F .on r j) (i - 1)) 0 ≡ i
-  unfolding rowsOf
-  rowsOf-rank u = listed-rank (λ r. F .on r j) (F .rows) i l u o

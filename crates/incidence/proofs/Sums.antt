@@ -78,10 +78,6 @@ sum-parity on value n (a ∷ rest) v =
 -- ---- rows of a family
 
 module _ (F : Family) (value : ℕ → List ℕ) (v : Values value) (n : ℕ) where
-  pub rowSum-length : (i : ℕ) → length (rowSum F value n i) ≡ 16
-  unfolding rowSum
-  rowSum-length i = sum-length (F .on i) value n v
-
   -- a row without a tag is the XOR of the rows that it is made of
   pub rowSum-made : Lawful F → n ≤ F .items → (i : ℕ) → 1 ≤ i → i ≤ F .rows → F .tagOfRow i ≡ 0
       → rowSum F value n i ≡ sumOf (rowSum F value n) (F .made i)

@@ -8,12 +8,6 @@ use Rattle.files.proofs.Passing.{rest-passes, unless-false, unless-passes, numb
 use Rattle.files.proofs.Messages.{headed}
 use Rattle.packing.specs.Packing.{appendRefusal}
 
--- the last of a list
-pub last : (t : Bool) → unless t 3 0 ≡ first (unless t 3 0 ∷ [])
-unfolding first
-last true = refl
-last false = refl
-
 -- ---- 7
 
 module _ (room n long : ℕ) where
@@ -37,11 +31,6 @@ module _ (room n long : ℕ) where
 pub room-tells : (size room : ℕ) (r : Refusal) → r ≡ refuse7 size room → r .number ≡ 0 → size ≤ room
 unfolding refuse7
 room-tells size room r e h = leb-true size room (unless-passes _ 7 0 (omega arith) (number-of r _ e h))
-
--- ---- 3
-
-pub header-tells : (s : List ℕ) (r : Refusal) → r ≡ refuse3 s → r .number ≡ 0 → 7 ≤ length s
-header-tells s r e h = headed s (number-of r (refuse3 s) e h) .0
 
 -- ---- what an append that passes tells
 
