@@ -1,7 +1,7 @@
 -- What an append that passes tells of file and item, and what each test of the code settles.
 use Rattle.fips197.proofs.Kit.{_≡_, refl, sym, ap, _∙_, Bool, true, false, List, [], _∷_, ℕ, _+_, _-_, _≤_, _<_, arith, leb, ltb, length, take, length-take, leb-true, leb-false, le-leb, lt-leb, ltb-true}
 use Rattle.files.specs.declared.Refusal.{Refusal}
-use Rattle.files.specs.Refusals.{refusal, unless, first}
+use Rattle.files.specs.Refusals.{refusal, unless}
 use Rattle.files.specs.Message.{itemCount, refuse3}
 use Rattle.files.specs.Arguments.{refuse7, refuse9}
 use Rattle.files.proofs.Passing.{rest-passes, unless-false, unless-passes, number-of}
