@@ -15,6 +15,19 @@ unfolding bigEndian
 bigEndian-bytes zero n = tt
 bigEndian-bytes (suc k) n = append-bytes (bigEndian k (n / 256)) (n % 256 ∷ []) (bigEndian-bytes k (n / 256)) (mod-lt n (zero-lt-suc 255), tt)
 
+-- k bytes are a number below 256 to the k
+below-front : (s : List ℕ) → Bytes s → (k : ℕ) → numberOf s k < 256 ^ k
+unfolding numberOf
+below-front s h zero = omega arith
+below-front s h (suc k) =
+    let b : getD s k 0 < 256 = byte-at s h k in
+    let r = below-front s h k in
+    subst (λ (m : ℕ). numberOf s k * 256 + getD s k 0 < m) (sym (pow-suc 256 k)) (omega arith)
+
+pub number-below : (s : List ℕ) → Bytes s → (k : ℕ) → length s ≡ k → number s < 256 ^ k
+unfolding number
+number-below s h k e = subst (λ (m : ℕ). number s < 256 ^ m) e (below-front s h (length s))
+
 -- what comes behind the first k bytes does not count
 numberOf-front : (a b : List ℕ) (k : ℕ) → k ≤ length a → numberOf (a ++ b) k ≡ numberOf a k
 unfolding numberOf
@@ -99,6 +112,30 @@ bigEndian-xor (suc k) a b =
     ap₂ (λ (m x : ℕ). bigEndian k m ++ (x ∷ [])) (xor-shr a b 8) (xor-mod a b 8)
     ∙ ap (λ (t : List ℕ). t ++ (bitXor (a % 256) (b % 256) ∷ [])) (bigEndian-xor k (a / 256) (b / 256))
     ∙ sym (⊕-snoc (bigEndian k (a / 256)) (bigEndian k (b / 256)) (a % 256) (b % 256) (bigEndian-length k (a / 256) ∙ sym (bigEndian-length k (b / 256))))
+
+-- four bytes and four behind them
+pair-below : (a r : ℕ) → r < 4294967296 → bigEndian 8 (a * 4294967296 + r) ≡ bigEndian 4 a ++ bigEndian 4 r
+unfolding bigEndian
+pair-below a r h =
+    let n = a * 4294967296 + r in
+    let q1 : n / 256 ≡ a * 16777216 + r / 256 = omega arith in
+    let q2 : n / 256 / 256 ≡ a * 65536 + r / 256 / 256 = ap (λ (m : ℕ). m / 256) q1 ∙ omega arith in
+    let q3 : n / 256 / 256 / 256 ≡ a * 256 + r / 256 / 256 / 256 = ap (λ (m : ℕ). m / 256) q2 ∙ omega arith in
+    let l1 : r / 256 < 16777216 = omega arith in
+    let l2 : r / 256 / 256 < 65536 = omega arith in
+    let l3 : r / 256 / 256 / 256 < 256 = omega arith in
+    let q4 : n / 256 / 256 / 256 / 256 ≡ a = ap (λ (m : ℕ). m / 256) q3 ∙ omega arith in
+    let e1 : n % 256 ≡ r % 256 = omega arith in
+    let e2 : n / 256 % 256 ≡ r / 256 % 256 = ap (λ (m : ℕ). m % 256) q1 ∙ omega arith in
+    let e3 : n / 256 / 256 % 256 ≡ r / 256 / 256 % 256 = ap (λ (m : ℕ). m % 256) q2 ∙ omega arith in
+    let e4 : n / 256 / 256 / 256 % 256 ≡ r / 256 / 256 / 256 % 256 = ap (λ (m : ℕ). m % 256) q3 ∙ omega arith in
+    (λ i. q4 i / 256 / 256 / 256 % 256 ∷ q4 i / 256 / 256 % 256 ∷ q4 i / 256 % 256 ∷ q4 i % 256 ∷ e4 i ∷ e3 i ∷ e2 i ∷ e1 i ∷ [])
+
+pub bigEndian-pair : (a b : ℕ) → bigEndian 8 (a * 4294967296 + b % 4294967296) ≡ bigEndian 4 a ++ bigEndian 4 b
+bigEndian-pair a b =
+    let e : b ≡ 4294967296 * (b / 4294967296) + b % 4294967296 = omega arith in
+    pair-below a (b % 4294967296) (omega arith)
+    ∙ ap (λ (t : List ℕ). bigEndian 4 a ++ t) (sym (ap (bigEndian 4) e ∙ bigEndian-over 4 (b / 4294967296) (b % 4294967296)))
 
 -- the eight bytes of a number of 64 bits, as the code computes them
 pub bigEndian-8 : (n : ℕ) → n < 2 ^ 64

@@ -121,6 +121,25 @@ pub fn to_be16(n: u16) -> [u8; 2]
     [(n / 256) as u8, (n % 256) as u8]
 }
 
+// The number that four bytes are.
+pub fn from_be32(a: u8, b: u8, c: u8, d: u8) -> u32
+    ensures { λ r. ⌜ r ≡ number (a ∷ b ∷ c ∷ d ∷ []) ⌝ }
+{
+    (((a as u32) * 256 + b as u32) * 256 + c as u32) * 256 + d as u32
+}
+
+// A number as four bytes.
+pub fn to_be32(n: u32) -> [u8; 4]
+    ensures { λ r. ⌜ r ≡ bigEndian 4 n ⌝ }
+{
+    [
+        (n / 256 / 256 / 256 % 256) as u8,
+        (n / 256 / 256 % 256) as u8,
+        (n / 256 % 256) as u8,
+        (n % 256) as u8,
+    ]
+}
+
 // A number as eight bytes.
 pub fn to_be64(n: u64) -> [u8; 8]
     ensures { λ r. ⌜ r ≡ bigEndian 8 n ⌝ }

@@ -3,15 +3,17 @@ use Rattle.fips197.proofs.Kit.{_≡_, refl, true, _&&_, List, ℕ, _≤_, arith
 use Rattle.incidence.specs.Count.{inside}
 use Rattle.incidence.proofs.Counting.{inside-low, inside-high}
 use Rattle.sizes.specs.Sizes.{known, familyOf}
+use Rattle.stamp.specs.Front.{stampOf}
 use Rattle.files.specs.declared.Refusal.{Refusal}
 use Rattle.files.specs.Message.{itemCount, refuse3, refuse5, refuse8, Sound}
-use Rattle.files.specs.TagFile.{fileSize, codeOf, countOf, countFits, Formed}
+use Rattle.files.specs.TagFile.{fileSize, codeOf, countOf, headOf, countFits, Formed}
 use Rattle.files.specs.Arguments.{refuse1, refuse2, refuse4, refuse7}
 use Rattle.incidence.proofs.Booleans.{and-left, and-right}
 use Rattle.files.proofs.Passing.{rest-passes, unless-passes, number-of}
 use Rattle.files.proofs.Messages.{plain3, plain5, headed}
 use Rattle.files.proofs.Accepted.{formed}
-use Rattle.checks.specs.Refused.{refuse21, tagRefusal, verifyRefusal, reportRefusal, replaceRefusal}
+use Rattle.tagging.specs.Tagging.{tagHead}
+use Rattle.checks.specs.Refused.{refuse21, refuse25, tagRefusal, verifyRefusal, reportRefusal, replaceRefusal}
 use Rattle.checks.specs.Passed.{Taggable, Comparable, Reportable, Replaceable}
 
 pub keys-long : (n : ℕ) → refuse1 n .number ≡ 0 → n ≡ 48
@@ -55,22 +57,24 @@ taggable keys c s room r e h =
       message = sound s (d .0) (g .0);
       low = inside-low _ _ n;
       high = inside-high _ _ n;
-      fits = roomy (fileSize c) room (rest-passes _ _ (g .1) .0);
+      fits = roomy (fileSize (tagHead c s)) room (rest-passes _ _ (g .1) .0);
     }
 
 pub comparable : (keys s f : List ℕ) (r : Refusal) → r ≡ verifyRefusal keys s f → r .number ≡ 0 → Comparable keys s f
-unfolding verifyRefusal refuse21
+unfolding verifyRefusal refuse21 refuse25
 comparable keys s f r e h =
     let a = rest-passes _ _ (number-of r _ e h) in
     let b = rest-passes _ _ (a .1) in
     let c = rest-passes _ _ (b .1) in
     let d = rest-passes _ _ (c .1) in
     let g = rest-passes _ _ (d .1) in
+    let k = rest-passes _ _ (g .1) in
     record {
       keys48 = keys-long (length keys) (a .0);
       message = sound s (b .0) (c .0);
       file = formed f (d .0);
-      counts = eqb-true _ _ (unless-passes (eqb (itemCount s) (countOf f)) 21 0 (omega arith) (rest-passes _ _ (g .1) .0));
+      counts = eqb-true _ _ (unless-passes (eqb (itemCount s) (countOf f)) 21 0 (omega arith) (k .0));
+      numbers = eqb-true _ _ (unless-passes (eqb (stampOf s .number) (stampOf f .number)) 25 0 (omega arith) (rest-passes _ _ (k .1) .0));
     }
 
 pub reportable : (keys s f : List ℕ) (room : ℕ) (r : Refusal) → r ≡ reportRefusal keys s f room → r .number ≡ 0 → Reportable keys s f room
@@ -95,5 +99,5 @@ replaceable keys f j old new room r e h =
       file = formed f (b .0);
       low = inside-low (countOf f) j n;
       high = inside-high (countOf f) j n;
-      fits = roomy (fileSize (codeOf f)) room (rest-passes _ _ (k .1) .0);
+      fits = roomy (fileSize (headOf f)) room (rest-passes _ _ (k .1) .0);
     }

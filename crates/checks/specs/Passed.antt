@@ -6,8 +6,10 @@ use mathlib.Core.List.{List}
 use Prim.Native.Nat.{ℕ, _≤_}
 use lib.ListN.{length}
 use Rattle.sizes.specs.Sizes.{known, familyOf}
+use Rattle.stamp.specs.Front.{stampOf}
 use Rattle.files.specs.Message.{itemCount, Sound}
-use Rattle.files.specs.TagFile.{fileSize, codeOf, countOf, Formed}
+use Rattle.files.specs.TagFile.{fileSize, countOf, headOf, Formed}
+use Rattle.tagging.specs.Tagging.{tagHead}
 
 -- Tag
 pub record Taggable (keys : List ℕ) (c : ℕ) (s : List ℕ) (room : ℕ) : Type 0 where
@@ -16,7 +18,7 @@ pub record Taggable (keys : List ℕ) (c : ℕ) (s : List ℕ) (room : ℕ) : Ty
   pub message : Sound s
   pub low : 1 ≤ itemCount s
   pub high : itemCount s ≤ familyOf c .items
-  pub fits : fileSize c ≤ room
+  pub fits : fileSize (tagHead c s) ≤ room
 
 -- Verify, and the files of a Report
 pub record Comparable (keys s f : List ℕ) : Type 0 where
@@ -24,6 +26,7 @@ pub record Comparable (keys s f : List ℕ) : Type 0 where
   pub message : Sound s
   pub file : Formed f
   pub counts : itemCount s ≡ countOf f
+  pub numbers : stampOf s .number ≡ stampOf f .number
 
 -- Report
 pub record Reportable (keys s f : List ℕ) (room : ℕ) : Type 0 where
@@ -36,4 +39,4 @@ pub record Replaceable (keys f : List ℕ) (j room : ℕ) : Type 0 where
   pub file : Formed f
   pub low : 1 ≤ j
   pub high : j ≤ countOf f
-  pub fits : fileSize (codeOf f) ≤ room
+  pub fits : fileSize (headOf f) ≤ room

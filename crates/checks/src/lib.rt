@@ -15,14 +15,16 @@ ghost use lib.ListN.{length};
 ghost use Rattle.files.specs.Message.{itemCount, refuse3};
 ghost use Rattle.files.specs.TagFile.{fileSize, refuse6, refuse20};
 ghost use Rattle.files.specs.Arguments.{refuse1, refuse7};
-ghost use Rattle.tagging.specs.Tagging.{keysIn};
-ghost use Rattle.checks.specs.Refused.{refuse21, tagRefusal, verifyRefusal, reportRefusal, replaceRefusal};
+ghost use Rattle.tagging.specs.Tagging.{keysIn, tagHead};
+ghost use Rattle.checks.specs.Refused.{refuse21, refuse25, tagRefusal, verifyRefusal, reportRefusal, replaceRefusal};
 
-// Refusal 7, or none, of a buffer for the tag file of a size code.
-fn check_room(code: u64, room: usize) -> Refusal
-    ensures { λ r. ⌜ r ≡ refuse7 (fileSize code) room ⌝ }
+// Refusal 7, or none, of a buffer for the tag file of a message.
+fn check_room(code: u64, s: &[u8], room: usize) -> Refusal
+    requires { ⌜ refuse3 (now s) .number ≡ 0 ⌝ }
+    ensures { λ r. ⌜ r ≡ refuse7 (fileSize (tagHead code (now (s .entry)))) room ⌝ }
 {
-    arguments::check_room(tagfile::file_size(code), room)
+    let head = tagging::head_for(code, s);
+    arguments::check_room(tagfile::file_size(head), room)
 }
 
 // Refusal 7, or none, of a buffer for the marks of a message's items.
@@ -50,6 +52,16 @@ fn check_counts(s: &[u8], f: &[u8]) -> Refusal
     unless(message::item_count(s) == head.count, 21, 0)
 }
 
+// Refusal 25, or none.
+fn check_numbers(s: &[u8], f: &[u8]) -> Refusal
+    requires { ⌜ (refuse3 (now s) .number ≡ 0) × (refuse6 (now f) .number ≡ 0) ⌝ }
+    ensures { λ r. ⌜ r ≡ refuse25 (now (s .entry)) (now (f .entry)) ⌝ }
+{
+    let own = stamp::stamp_of(s);
+    let other = stamp::stamp_of(f);
+    unless(own.number == other.number, 25, 0)
+}
+
 // Tag: 1, 2, 3, 4, 5, 7.
 pub fn tag_refusal(keys: &[u8], code: u64, s: &[u8], room: usize) -> Refusal
     ensures { λ r. ⌜ r ≡ tagRefusal (now (keys .entry)) code (now (s .entry)) room ⌝ }
@@ -66,11 +78,11 @@ pub fn tag_refusal(keys: &[u8], code: u64, s: &[u8], room: usize) -> Refusal
         r,
         message::check_count(code, s),
         message::check_items(s),
-        check_room(code, room),
+        check_room(code, s, room),
     )
 }
 
-// Verify: 1, 3, 5, 6, 20, 21.
+// Verify: 1, 3, 5, 6, 20, 21, 25.
 pub fn verify_refusal(keys: &[u8], s: &[u8], f: &[u8]) -> Refusal
     ensures { λ r. ⌜ r ≡ verifyRefusal (now (keys .entry)) (now (s .entry)) (now (f .entry)) ⌝ }
 {
@@ -82,7 +94,10 @@ pub fn verify_refusal(keys: &[u8], s: &[u8], f: &[u8]) -> Refusal
     if r.number != 0 {
         return r;
     }
-    first3(r, check_seal(keys, f), check_counts(s, f))
+    let seal = check_seal(keys, f);
+    let counts = check_counts(s, f);
+    let numbers = check_numbers(s, f);
+    first4(r, seal, counts, numbers)
 }
 
 // Report: as Verify, then 7.

@@ -1,54 +1,29 @@
 -- The message file: what each check of the code settles, and where the items of a file that is not refused lie.
-use Rattle.fips197.proofs.Kit.{_≡_, refl, sym, ap, ap₂, _∙_, Bool, true, false, _&&_, _⊎_, inl, inr, List, [], _∷_, ℕ, zero, suc, _+_, _-_, _≤_, _<_, not-suc-le-zero, le-of-suc-le-suc, eq-or-lt-of-le, add-one, arith, eqb, leb, length, getD, take, drop, drop-cons, RefT, now, ptr, leb-true, le-leb, lt-leb, eq-eqb, ne-eqb}
-use Rattle.blocks.specs.Block.{same}
-use Rattle.blocks.specs.Number.{number}
-use Rattle.blocks.proofs.Xor.{same-true, same-eq}
+use Rattle.fips197.proofs.Kit.{_≡_, refl, sym, ap, ap₂, _∙_, Bool, true, false, _&&_, _⊎_, inl, inr, List, [], _∷_, ℕ, zero, suc, _+_, _-_, _≤_, _<_, not-suc-le-zero, le-of-suc-le-suc, eq-or-lt-of-le, add-one, arith, eqb, leb, length, take, drop, RefT, now, ptr, leb-true, le-leb, lt-leb, eq-eqb, ne-eqb}
+use Rattle.incidence.specs.Count.{inside}
+use Rattle.stamp.specs.Front.{versionOf, beginsAs}
+use Rattle.stamp.proofs.Fronts.{begins-as-so, begins-as-yes}
 use Rattle.files.specs.declared.Refusal.{Refusal}
 use Rattle.files.specs.Refusals.{refusal, none, unless, first}
-use Rattle.files.specs.Message.{number16, prefix, itemCount, behind, itemStart, itemSize, refuse3, itemFits, refuseItems, refuse5, refuse8, fetchRefusal, fetchStart, fetchSize, PartOf}
+use Rattle.files.specs.Message.{number16, messageLetters, newestMessage, itemsAt, itemCount, behind, itemStart, itemSize, refuse3, itemFits, refuseItems, refuse5, refuse8, fetchRefusal, fetchStart, fetchSize, PartOf}
 use Rattle.incidence.proofs.Booleans.{and-left, and-right, and-both, and-false-l, and-false-r}
 use Rattle.files.proofs.Passing.{first-here, first-later, rest-passes, unless-true, unless-false, unless-passes, Plain, plain-unless, plain-first, number-of}
 
--- ---- numbers
-
--- two bytes at a place
-pub two-at : (s : List ℕ) (at : ℕ) → at + 2 ≤ length s → getD s at 0 ∷ getD s (at + 1) 0 ∷ [] ≡ take 2 (drop at s)
-two-at s at h =
-    ap (λ (k : ℕ). getD s at 0 ∷ getD s k 0 ∷ []) (add-one at)
-    ∙ sym (ap (take 2) (drop-cons s at 0 (omega arith) ∙ ap (λ (t : List ℕ). getD s at 0 ∷ t) (drop-cons s (suc at) 0 (omega arith))))
-
 -- ---- 3
 
-pub different : (t : Bool) (a b : List ℕ) → (a ≡ b → t ≡ true) → t ≡ false → same a b ≡ false
-different t a b f e = go (same a b) refl
-  where
-    go : (u : Bool) → same a b ≡ u → same a b ≡ false
-    go true p = let q : t ≡ true = f (same-true a b p) in absurd (let z : _≡_ {A = ℕ} 0 1 = cc in omega arith)
-    go false p = p
+pub headed : (s : List ℕ) → refuse3 s .number ≡ 0 → (itemsAt (versionOf s) ≤ length s) × (length s ≤ 65536)
+unfolding refuse3
+headed s h =
+    let a = beginsAs messageLetters newestMessage (itemsAt (versionOf s)) s in
+    let b = leb (length s) 65536 in
+    let t = unless-passes (a && b) 3 0 (omega arith) h in
+    (begins-as-so messageLetters newestMessage s (itemsAt (versionOf s)) (and-left a b t) .long, leb-true (length s) 65536 (and-right a b t))
 
-module _ (s : List ℕ) where
-  pub header-short : length s < 7 → refusal 3 0 ≡ refuse3 s
-  unfolding refuse3
-  header-short h = sym (unless-false _ 3 0 (and-false-l _ (same (take 5 s) prefix) (and-false-l _ (leb (length s) 65536) (lt-leb 7 (length s) h))))
-
-  pub header-long : 65536 < length s → refusal 3 0 ≡ refuse3 s
-  unfolding refuse3
-  header-long h = sym (unless-false _ 3 0 (and-false-l _ (same (take 5 s) prefix) (and-false-r (leb 7 (length s)) _ (lt-leb (length s) 65536 h))))
-
-  pub header-right : 7 ≤ length s → length s ≤ 65536 → take 5 s ≡ prefix → none ≡ refuse3 s
-  unfolding refuse3
-  header-right l u e =
-      sym (unless-true _ 3 0 (and-both (and-both (le-leb 7 (length s) l) (le-leb (length s) 65536 u)) (same-eq (take 5 s) prefix e)))
-
-  pub header-wrong : (t : Bool) → (take 5 s ≡ prefix → t ≡ true) → t ≡ false → refusal 3 0 ≡ refuse3 s
-  unfolding refuse3
-  header-wrong t f e = sym (unless-false _ 3 0 (and-false-r (leb 7 (length s) && leb (length s) 65536) _ (different t (take 5 s) prefix f e)))
-
-  pub headed : refuse3 s .number ≡ 0 → (7 ≤ length s) × (length s ≤ 65536)
-  unfolding refuse3
-  headed h =
-      let a = and-left _ (same (take 5 s) prefix) (unless-passes _ 3 0 (omega arith) h) in
-      (leb-true 7 (length s) (and-left (leb 7 (length s)) (leb (length s) 65536) a), leb-true (length s) 65536 (and-right (leb 7 (length s)) (leb (length s) 65536) a))
+pub header-right : (s : List ℕ) → itemsAt (versionOf s) ≤ length s → length s ≤ 65536 → take 3 s ≡ messageLetters → inside newestMessage (versionOf s) ≡ true
+    → refuse3 s ≡ none
+unfolding refuse3
+header-right s l u e v =
+    unless-true _ 3 0 (and-both (begins-as-yes messageLetters newestMessage s (itemsAt (versionOf s)) l e ∙ v) (le-leb (length s) 65536 u))
 
 -- ---- an item fits
 
@@ -89,7 +64,7 @@ module _ (s : List ℕ) where
   behind-more k at e = ap (λ (a : ℕ). a + 2 + number16 s a) e ∙ ap (behind s) (sym (add-one k))
 
   -- each takes two bytes at least
-  pub behind-low : (k : ℕ) → 7 + (k + k) ≤ behind s k
+  pub behind-low : (k : ℕ) → k + k ≤ behind s k
   unfolding behind
   behind-low zero = omega arith
   behind-low (suc k) = omega (arith, behind-low k)
@@ -174,7 +149,7 @@ module _ (s : List ℕ) where
 
 pub plain3 : (s : List ℕ) → Plain (refuse3 s)
 unfolding refuse3
-plain3 s = plain-unless ((leb 7 (length s) && leb (length s) 65536) && same (take 5 s) prefix) 3 0 (omega arith)
+plain3 s = plain-unless (beginsAs messageLetters newestMessage (itemsAt (versionOf s)) s && leb (length s) 65536) 3 0 (omega arith)
 
 plain-items : (s : List ℕ) (k : ℕ) → Plain (refuseItems s k)
 unfolding refuseItems
@@ -193,7 +168,7 @@ plain5 s =
 
 -- a file and a number that Fetch does not refuse
 pub record Fetchable (s : List ℕ) (j : ℕ) : Type 0 where
-  pub long : 7 ≤ length s
+  pub long : itemsAt (versionOf s) ≤ length s
   pub short : length s ≤ 65536
   pub whole : refuse5 s ≡ none
   pub low : 1 ≤ j

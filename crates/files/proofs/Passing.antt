@@ -1,5 +1,5 @@
 -- Refusals: what passes is none, and the first of a list.
-use Rattle.fips197.proofs.Kit.{_≡_, refl, sym, ap, ap₂, _∙_, Bool, true, false, List, [], _∷_, _++_, append-nil, ℕ, _<_, arith, eqb, eqb-true, eqb-false, eq-eqb, ne-eqb}
+use Rattle.fips197.proofs.Kit.{_≡_, refl, sym, ap, ap₂, _∙_, Bool, true, false, _&&_, List, [], _∷_, _++_, append-nil, ℕ, _<_, arith, eqb, eqb-true, eqb-false, eq-eqb, ne-eqb}
 use Rattle.blocks.specs.Block.{if_then_else_}
 use Rattle.files.specs.declared.Refusal.{Refusal}
 use Rattle.files.specs.Refusals.{refusal, none, unless, passes, first}
@@ -42,6 +42,13 @@ unless-false t n p e = ap (λ (b : Bool). if b then none else refusal n p) e
 pub unless-passes : (t : Bool) (n p : ℕ) → 0 < n → unless t n p .number ≡ 0 → t ≡ true
 unless-passes true n p h e = refl
 unless-passes false n p h e = absurd (omega arith)
+
+-- two tests, of which the first settles it or leaves it to the second
+pub unless-and : (a b : Bool) (n p : ℕ) → a ≡ true → unless b n p ≡ unless (a && b) n p
+unless-and a b n p e = ap (λ (x : Bool). unless (x && b) n p) (sym e)
+
+pub unless-not : (a b : Bool) (n p : ℕ) → a ≡ false → refusal n p ≡ unless (a && b) n p
+unless-not a b n p e = ap (λ (x : Bool). unless (x && b) n p) (sym e)
 
 -- ---- what passes is none
 

@@ -1,14 +1,16 @@
 -- The tag file: what each check of the code settles, and that what is accepted is what the writer lays out and seals.
-use Rattle.fips197.proofs.Kit.{_≡_, sym, ap, ap₂, _∙_, Bool, true, false, _&&_, List, ℕ, _-_, _≤_, _<_, arith, eqb, leb, length, take, drop, length-drop, take-all, le-leb, lt-leb}
+use Rattle.fips197.proofs.Kit.{_≡_, refl, sym, ap, ap₂, _∙_, Bool, true, false, _&&_, List, _∷_, _++_, append-assoc, ℕ, _+_, _-_, _≤_, _<_, arith, leb, length, take, drop, length-append, length-drop, take-at, drop-at, drop-drop, take-all, le-leb, lt-leb}
 use Rattle.blocks.specs.Block.{same}
+use Rattle.blocks.specs.Number.{bigEndian}
 use Rattle.cipher.specs.Cmac.{cmac}
-use Rattle.blocks.proofs.Xor.{same-eq}
 use Rattle.sizes.specs.Sizes.{known, familyOf}
-use Rattle.files.specs.Refusals.{refusal, unless}
-use Rattle.files.specs.TagFile.{tagPrefix, codeOf, countOf, countFits, fileSize, macOf, bodyOf, refuse6, refuse20}
-use Rattle.incidence.proofs.Booleans.{and-both, and-false-l, and-false-r}
-use Rattle.files.proofs.Passing.{unless-false}
-use Rattle.files.proofs.Messages.{different}
+use Rattle.files.specs.Refusals.{unless}
+use Rattle.blocks.proofs.Numbers.{bigEndian-length}
+use Rattle.stamp.specs.Front.{front, frontSize}
+use Rattle.stamp.proofs.Fronts.{front-length}
+use Rattle.files.specs.declared.tagfile.Head.{Head}
+use Rattle.files.specs.TagFile.{tagLetters, header, tagsAt, countFits, macOf, bodyOf, refuse20}
+use Rattle.incidence.proofs.Booleans.{and-false-l, and-false-r}
 
 -- ---- size code and count
 
@@ -27,24 +29,40 @@ module _ (c n : ℕ) (k : Bool) (ek : k ≡ known c) where
   unfolding countFits
   fits-unknown h = sym (and-false-l (known c) _ (sym ek ∙ h))
 
--- ---- 6
+-- ---- the bytes before the tags
 
-module _ (s : List ℕ) where
-  pub tag-short : length s < 24 → refusal 6 0 ≡ refuse6 s
-  unfolding refuse6
-  tag-short h = sym (unless-false _ 6 0 (and-false-l _ _ (and-false-l _ (same (take 5 s) tagPrefix) (lt-leb 24 (length s) h))))
+pub header-length : (h : Head) → length (header h) ≡ tagsAt (h .stamp .version)
+unfolding header tagsAt tagLetters
+header-length h =
+    let a = front-length tagLetters (h .stamp) refl in
+    let b = bigEndian-length 2 (h .count) in
+    length-append (front tagLetters (h .stamp)) (h .code ∷ bigEndian 2 (h .count)) ∙ omega arith
 
-  pub tag-letters : (t : Bool) → (take 5 s ≡ tagPrefix → t ≡ true) → t ≡ false → refusal 6 0 ≡ refuse6 s
-  unfolding refuse6
-  tag-letters t f e = sym (unless-false _ 6 0 (and-false-l _ _ (and-false-r (leb 24 (length s)) _ (different t (take 5 s) tagPrefix f e))))
+module _ (h : Head) (o o1 : List ℕ) (e1 : o1 ≡ front tagLetters (h .stamp) ++ drop (frontSize (h .stamp .version)) o) where
+  abbrev f : List ℕ
+  f = front tagLetters (h .stamp)
 
-  pub tag-rest : (t : Bool) → 24 ≤ length s → take 5 s ≡ tagPrefix → t ≡ (countFits (codeOf s) (countOf s) && eqb (length s) (fileSize (codeOf s)))
-      → unless t 6 0 ≡ refuse6 s
-  unfolding refuse6
-  tag-rest t l p e =
-      ap₂ (λ (x y : Bool). unless (x && y) 6 0) (sym (and-both (le-leb 24 (length s) l) (same-eq (take 5 s) tagPrefix p))) e
+  abbrev at : ℕ
+  at = frontSize (h .stamp .version)
 
--- what is tested of the size code, the count and the length
+  front-long : length f ≡ at
+  unfolding tagLetters
+  front-long = front-length tagLetters (h .stamp) refl
+
+  pub front-put : at ≤ length o → length o1 ≡ length o
+  front-put l = ap length e1 ∙ length-append f (drop at o) ∙ simp length-drop (omega (arith, front-long))
+
+  pub header-put : (o2 : List ℕ) → o2 ≡ take at o1 ++ ((h .code ∷ bigEndian 2 (h .count)) ++ drop (at + 3) o1) → o2 ≡ header h ++ drop (tagsAt (h .stamp .version)) o
+  unfolding header tagsAt
+  header-put o2 e2 =
+      let x = h .code ∷ bigEndian 2 (h .count) in
+      e2
+      ∙ ap₂ (λ (a b : List ℕ). a ++ (x ++ b)) (ap (take at) e1 ∙ take-at f (drop at o) at front-long)
+      (sym (drop-drop 3 at o1) ∙ ap (drop 3) (ap (drop at) e1 ∙ drop-at f (drop at o) at front-long) ∙ drop-drop 3 at o)
+      ∙ sym (append-assoc f x (drop (at + 3) o))
+
+-- ---- what is tested of the size code, the count and the length
+
 pub both-left : (a b t : Bool) → a ≡ t → t ≡ false → t ≡ (a && b)
 both-left a b t e h = h ∙ sym (and-false-l a b (e ∙ h))
 
@@ -54,7 +72,7 @@ both-right a b t e h = sym (ap (λ (x : Bool). x && b) (e ∙ h))
 -- ---- 20
 
 module _ (key s mac a b : List ℕ) (end : ℕ) (t : Bool) (ee : end ≡ length s - 16) (eb : b ≡ take (end - 0) s) (em : mac ≡ cmac key b)
-    (ea : a ≡ take 16 (drop end s)) (long : 24 ≤ length s) (et : t ≡ same a mac) where
+    (ea : a ≡ take 16 (drop end s)) (long : 16 ≤ length s) (et : t ≡ same a mac) where
   compared : t ≡ same (macOf s) (cmac key (bodyOf s))
   unfolding macOf bodyOf
   compared =

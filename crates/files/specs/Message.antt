@@ -1,5 +1,6 @@
--- The message file (document 01: shelf): "letters TBS, 2-byte version 1, 2-byte count, then for each card a 2-byte length and its bytes".
--- What is refused of it, where its items (cards) lie, and what Fetch gives. Assumes nothing.
+-- The message file (document 01: shelf): "letters TBS, 2-byte version, 2-byte count, then for each card a 2-byte length and its bytes", with
+-- the shelf's number behind the version in version 2 (document 02, 2.3). What is refused of it, where its items (cards) lie, and what Fetch
+-- gives. Assumes nothing.
 use mathlib.Core.Path.{_≡_}
 use mathlib.Core.Bool.{Bool, _&&_}
 use mathlib.Core.List.{List, [], _∷_}
@@ -7,8 +8,9 @@ use Prim.Native.Nat.{ℕ, zero, suc, _+_, _-_, _≤_}
 use lib.Dec.{eqb, leb}
 use lib.ListN.{length, take, drop}
 use denote.Ref.{RefT, now, ptr}
-use Rattle.blocks.specs.Block.{if_then_else_, same}
+use Rattle.blocks.specs.Block.{if_then_else_}
 use Rattle.blocks.specs.Number.{number}
+use Rattle.stamp.specs.Front.{frontSize, versionOf, beginsAs}
 use Rattle.files.specs.declared.Refusal.{Refusal}
 use Rattle.files.specs.Refusals.{none, unless, passes, first}
 
@@ -16,17 +18,24 @@ use Rattle.files.specs.Refusals.{none, unless, passes, first}
 unfoldable pub number16 : List ℕ → ℕ → ℕ
 number16 s at = number (take 2 (drop at s))
 
--- the letters TBS and version 1
-unfoldable pub prefix : List ℕ
-prefix = 0x54 ∷ 0x42 ∷ 0x53 ∷ 0 ∷ 1 ∷ []
+-- the letters TBS, and the newest version that a message file has
+unfoldable pub messageLetters : List ℕ
+messageLetters = 0x54 ∷ 0x42 ∷ 0x53 ∷ []
+
+unfoldable pub newestMessage : ℕ
+newestMessage = 2
+
+-- where the items start in version v: behind the count
+unfoldable pub itemsAt : ℕ → ℕ
+itemsAt v = frontSize v + 2
 
 -- the number of items that the file says it has
 unfoldable pub itemCount : List ℕ → ℕ
-itemCount s = number16 s 5
+itemCount s = number16 s (frontSize (versionOf s))
 
 -- the place behind the first k items: where the length of item k + 1 stands
 unfoldable pub behind : List ℕ → ℕ → ℕ
-behind s zero = 7
+behind s zero = itemsAt (versionOf s)
 behind s (suc k) = behind s k + 2 + number16 s (behind s k)
 
 -- where the bytes of item j start, how many they are, and what they are; items are numbered from 1
@@ -41,9 +50,9 @@ item s j = take (itemSize s j) (drop (itemStart s j) s)
 
 -- ---- what is refused
 
--- 3: "under 7 or over 65,536 bytes, or wrong letters or version"
+-- 3: "under 7 or over 65,536 bytes, or wrong letters or version"; "A version 2 shelf needs 11 bytes"
 unfoldable pub refuse3 : List ℕ → Refusal
-refuse3 s = unless ((leb 7 (length s) && leb (length s) 65536) && same (take 5 s) prefix) 3 0
+refuse3 s = unless (beginsAs messageLetters newestMessage (itemsAt (versionOf s)) s && leb (length s) 65536) 3 0
 
 -- whether an item's length, and the item behind it, lie in the file, and the length is at most 1,024
 unfoldable pub itemFits : List ℕ → ℕ → Bool
@@ -63,7 +72,7 @@ refuse5 s = first (refuseItems s (itemCount s) ∷ unless (eqb (behind s (itemCo
 pub record Sound (s : List ℕ) : Type 0 where
   pub head : refuse3 s ≡ none
   pub whole : refuse5 s ≡ none
-  pub long : 7 ≤ length s
+  pub long : itemsAt (versionOf s) ≤ length s
   pub short : length s ≤ 65536
 
 -- 8: "card number 0 or above count"

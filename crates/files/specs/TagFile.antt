@@ -1,5 +1,6 @@
--- The tag file (document 01: sheet): "letters TBT, 2-byte version 1, 1-byte size code, 2-byte count, t tags of 16 bytes, seal of 16 bytes.
--- The seal is CMAC under the seal key of all bytes before it." What is refused of it, and what it holds. Assumes nothing.
+-- The tag file (document 01: sheet): "letters TBT, 2-byte version, 1-byte size code, 2-byte count, t tags of 16 bytes, seal of 16 bytes. The
+-- seal is CMAC under the seal key of all bytes before it", with the shelf's number behind the version in version 2 (document 02, 2.3). What is
+-- refused of it, and what it holds. Assumes nothing.
 use mathlib.Core.Path.{_≡_}
 use mathlib.Core.Bool.{Bool, true, _&&_}
 use mathlib.Core.List.{List, [], _∷_, _++_}
@@ -9,7 +10,10 @@ use lib.ListN.{length, getD, take, drop}
 use Rattle.blocks.specs.Block.{Bytes, same}
 use Rattle.blocks.specs.Number.{bigEndian}
 use Rattle.cipher.specs.Cmac.{cmac}
+use Rattle.incidence.specs.Count.{inside}
 use Rattle.sizes.specs.Sizes.{known, familyOf}
+use Rattle.stamp.specs.declared.Stamp.{Stamp}
+use Rattle.stamp.specs.Front.{front, frontSize, stampFits, versionOf, stampOf, beginsAs}
 use Rattle.files.specs.declared.Refusal.{Refusal}
 use Rattle.files.specs.declared.tagfile.Head.{Head}
 use Rattle.files.specs.Refusals.{unless}
@@ -17,17 +21,27 @@ use Rattle.files.specs.Message.{number16}
 
 -- ---- what the writer lays out
 
--- the letters TBT and version 1
-unfoldable pub tagPrefix : List ℕ
-tagPrefix = 0x54 ∷ 0x42 ∷ 0x54 ∷ 0 ∷ 1 ∷ []
+-- the letters TBT, and the newest version that a tag file has
+unfoldable pub tagLetters : List ℕ
+tagLetters = 0x54 ∷ 0x42 ∷ 0x54 ∷ []
 
--- what a file says before its tags: size code c and count n
-abbrev pub headFor : ℕ → ℕ → Head
-headFor c n = record { code = c; count = n }
+unfoldable pub newestTagFile : ℕ
+newestTagFile = 2
 
--- the eight bytes before the tags
+-- the stamp of a file made anew for a message's number: Tag and sessions "write version 2 sheets"
+unfoldable pub stampFor : ℕ → Stamp
+stampFor number = record { version = newestTagFile; number = number }
+
+-- what a file says before its tags: stamp, size code c and count n
+abbrev pub headFor : Stamp → ℕ → ℕ → Head
+headFor st c n = record { stamp = st; code = c; count = n }
+
+-- the bytes before the tags, and how many they are in version v
 unfoldable pub header : Head → List ℕ
-header h = tagPrefix ++ (h .code ∷ bigEndian 2 (h .count))
+header h = front tagLetters (h .stamp) ++ (h .code ∷ bigEndian 2 (h .count))
+
+unfoldable pub tagsAt : ℕ → ℕ
+tagsAt v = frontSize v + 3
 
 -- everything before the MAC, with the tags one after another
 unfoldable pub body : Head → List ℕ → List ℕ
@@ -37,24 +51,24 @@ body h tags = header h ++ tags
 unfoldable pub sealed : List ℕ → List ℕ → List ℕ
 sealed key s = s ++ cmac key s
 
--- the length of a tag file of size code c
-unfoldable pub fileSize : ℕ → ℕ
-fileSize c = 24 + 16 * familyOf c .tags
+-- the length of the tag file that says h: 24+16t bytes in version 1, 28+16t in version 2
+unfoldable pub fileSize : Head → ℕ
+fileSize h = tagsAt (h .stamp .version) + 16 * familyOf (h .code) .tags + 16
 
 -- ---- what a file says
 
 unfoldable pub codeOf : List ℕ → ℕ
-codeOf s = getD s 5 0
+codeOf s = getD s (frontSize (versionOf s)) 0
 
 unfoldable pub countOf : List ℕ → ℕ
-countOf s = number16 s 6
+countOf s = number16 s (frontSize (versionOf s) + 1)
 
 unfoldable pub headOf : List ℕ → Head
-headOf s = headFor (codeOf s) (countOf s)
+headOf s = headFor (stampOf s) (codeOf s) (countOf s)
 
 -- the tags one after another, and all that the MAC is of
 unfoldable pub tagsIn : List ℕ → List ℕ
-tagsIn s = take (length s - 24) (drop 8 s)
+tagsIn s = take (length s - (tagsAt (versionOf s) + 16)) (drop (tagsAt (versionOf s)) s)
 
 unfoldable pub bodyOf : List ℕ → List ℕ
 bodyOf s = take (length s - 16) s
@@ -68,27 +82,28 @@ macOf s = drop (length s - 16) s
 unfoldable pub countFits : ℕ → ℕ → Bool
 countFits c n = known c && (leb 1 n && leb n (familyOf c .items))
 
--- 6: "sheet under 24 bytes, wrong letters, version or size code, count outside 1 to m, or length not 24+16t"
+-- 6: "sheet under 24 bytes, wrong letters, version or size code, count outside 1 to m, or length not 24+16t"; in version 2 28 and 28+16t
 unfoldable pub refuse6 : List ℕ → Refusal
 refuse6 s =
-    unless ((leb 24 (length s) && same (take 5 s) tagPrefix)
-    && (countFits (codeOf s) (countOf s) && eqb (length s) (fileSize (codeOf s)))) 6 0
+    unless (beginsAs tagLetters newestTagFile (tagsAt (versionOf s) + 16) s && (countFits (codeOf s) (countOf s) && eqb (length s) (fileSize (headOf s)))) 6 0
 
 -- a file that 6 does not refuse
 pub record Formed (s : List ℕ) : Type 0 where
-  pub long : 24 ≤ length s
-  pub letters : take 5 s ≡ tagPrefix
+  pub long : tagsAt (versionOf s) + 16 ≤ length s
+  pub letters : take 3 s ≡ tagLetters
+  pub version : inside newestTagFile (versionOf s) ≡ true
   pub fits : countFits (codeOf s) (countOf s) ≡ true
-  pub size : length s ≡ fileSize (codeOf s)
+  pub size : length s ≡ fileSize (headOf s)
 
 -- 20: "seal differs"
 unfoldable pub refuse20 : List ℕ → List ℕ → Refusal
 refuse20 key s = unless (same (macOf s) (cmac key (bodyOf s))) 20 0
 
--- demand 2: a file that the writer lays out and seals for some size code, count and tags
+-- demand 2 and document 02, 2.3: a file that the writer lays out and seals "for some version and number as well as some size, count and tags"
 pub record Written (key s : List ℕ) : Type 0 where
   pub head : Head
   pub tags : List ℕ
+  pub stamped : stampFits newestTagFile (head .stamp) ≡ true
   pub fits : countFits (head .code) (head .count) ≡ true
   pub long : length tags ≡ 16 * familyOf (head .code) .tags
   pub bytes : Bytes tags

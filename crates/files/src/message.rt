@@ -2,21 +2,22 @@
 use crate::Refusal;
 use crate::arguments;
 use crate::refusals::first3;
+use crate::refusals::unless;
 use blocks::block;
 ghost use mathlib.Core.Path.{_≡_};
 ghost use Prim.Native.Nat.{_+_, _≤_, _<_};
 ghost use lib.ListN.{length};
+ghost use Rattle.stamp.specs.Front.{versionOf};
 ghost use Rattle.files.specs.Refusals.{none};
-ghost use Rattle.files.specs.Message.{number16, itemCount, behind, itemFits, refuse3, refuse5, refuse8, fetchRefusal, fetchStart, fetchSize, PartOf};
+ghost use Rattle.files.specs.Message.{number16, itemsAt, itemCount, behind, itemFits, refuse3, refuse5, refuse8, fetchRefusal, fetchStart, fetchSize, PartOf};
 ghost use Rattle.files.specs.Arguments.{refuse4};
 
-// Where the count stands, behind letters and version, and where the first item's length does.
-pub const COUNT_AT: usize = 5;
+// The letters, the newest version, and how many bytes the count has.
+pub const LETTERS: [u8; 3] = *b"TBS";
 
-pub const ITEMS_AT: usize = 7;
+pub const NEWEST: u16 = 2;
 
-// The file without items: letters, version and count.
-pub const EMPTY: [u8; 7] = *b"TBS\x00\x01\x00\x00";
+const COUNT_SIZE: u8 = 2;
 
 // The most bytes that a file and an item may have.
 pub const MOST: usize = 65536;
@@ -31,35 +32,28 @@ pub fn number16(s: &[u8], at: usize) -> usize
     block::from_be16(s[at], s[at + 1]) as usize
 }
 
+// Where the items start in a version: behind the count.
+pub fn items_at(version: u16) -> usize
+    ensures { λ r. ⌜ (r ≡ itemsAt version) × (r ≤ 11) ⌝ }
+{
+    stamp::front_size(version) + COUNT_SIZE as usize
+}
+
 // The count that a file says.
 pub fn item_count(s: &[u8]) -> usize
-    requires { ⌜ 7 ≤ length (now s) ⌝ }
+    requires { ⌜ itemsAt (versionOf (now s)) ≤ length (now s) ⌝ }
     ensures { λ r. ⌜ (r ≡ itemCount (now (s .entry))) × (r < 65536) ⌝ }
 {
-    number16(s, COUNT_AT)
+    number16(s, stamp::front_size(stamp::version_of(s)))
 }
 
 // Refusal 3, or none.
 pub fn check_header(s: &[u8]) -> Refusal
     ensures { λ r. ⌜ r ≡ refuse3 (now (s .entry)) ⌝ }
 {
-    if s.len() < ITEMS_AT {
-        return Refusal {
-            number: 3,
-            place: 0,
-        };
-    }
-    if MOST < s.len() {
-        return Refusal {
-            number: 3,
-            place: 0,
-        };
-    }
-    if check::same(&s[0..COUNT_AT], b"TBS\x00\x01") {
-        return Refusal {
-            number: 0,
-            place: 0,
-        };
+    let letters = LETTERS;
+    if stamp::begins_as(s, &letters, NEWEST, COUNT_SIZE) {
+        return unless(s.len() <= MOST, 3, 0);
     }
     Refusal {
         number: 3,
@@ -74,12 +68,13 @@ pub struct Cursor {
 }
 
 impl Cursor {
-    // Before the first item.
-    pub fn first() -> Cursor
-        ensures { λ r. ⌜ (r .at ≡ 7) × (r .passed ≡ 0) ⌝ }
+    // Before the first item of a file.
+    pub fn first(s: &[u8]) -> Cursor
+        requires { ⌜ itemsAt (versionOf (now s)) ≤ length (now s) ⌝ }
+        ensures { λ r. ⌜ (r .at ≡ behind (now (s .entry)) 0) × (r .passed ≡ 0) ⌝ }
     {
         Cursor {
-            at: ITEMS_AT,
+            at: items_at(stamp::version_of(s)),
             passed: 0,
         }
     }
@@ -119,7 +114,7 @@ pub fn check_items(s: &[u8]) -> Refusal
     ensures { λ r. ⌜ r ≡ refuse5 (now (s .entry)) ⌝ }
 {
     let n = item_count(s);
-    let mut c = Cursor::first();
+    let mut c = Cursor::first(s);
     while c.passed < n {
         if c.fits(s) {
             c = c.next(s);
@@ -171,10 +166,10 @@ pub fn fetch_refusal(s: &[u8], j: u64) -> Refusal
 
 // The place behind the first k items of a file that is not refused.
 fn seek(s: &[u8], k: usize) -> usize
-    requires { ⌜ (7 ≤ length (now s)) × (length (now s) ≤ 65536) × (refuse5 (now s) ≡ none) × (k < itemCount (now s)) ⌝ }
+    requires { ⌜ (itemsAt (versionOf (now s)) ≤ length (now s)) × (length (now s) ≤ 65536) × (refuse5 (now s) ≡ none) × (k < itemCount (now s)) ⌝ }
     ensures { λ r. ⌜ (r ≡ behind (now (s .entry)) k) × (r + 2 + number16 (now (s .entry)) r ≤ length (now (s .entry))) ⌝ }
 {
-    let mut c = Cursor::first();
+    let mut c = Cursor::first(s);
     while c.passed < k {
         c = c.next(s);
     }

@@ -6,13 +6,14 @@ use Rattle.blocks.specs.Number.{numberOf, number}
 use Rattle.blocks.proofs.Xor.{take-bytes, drop-bytes}
 use Rattle.incidence.specs.Count.{inside}
 use Rattle.sizes.specs.Sizes.{known, familyOf}
+use Rattle.stamp.specs.Front.{frontSize, versionOf, stampOf, beginsAs}
 use Rattle.files.specs.declared.Refusal.{Refusal}
 use Rattle.files.specs.Refusals.{unless, passes, first}
-use Rattle.files.specs.Message.{number16, prefix, itemCount, behind, itemFits, refuseItems, refuse3, refuse5, refuse8}
-use Rattle.files.specs.TagFile.{tagPrefix, fileSize, codeOf, countOf, bodyOf, macOf, countFits, refuse6, refuse20}
+use Rattle.files.specs.Message.{number16, messageLetters, newestMessage, itemsAt, itemCount, behind, itemFits, refuseItems, refuse3, refuse5, refuse8}
+use Rattle.files.specs.TagFile.{tagLetters, newestTagFile, tagsAt, fileSize, codeOf, countOf, headOf, bodyOf, macOf, countFits, refuse6, refuse20}
 use Rattle.files.specs.Arguments.{refuse1, refuse2, refuse4, refuse7, refuse9}
-use Rattle.tagging.specs.Tagging.{keysIn}
-use Rattle.checks.specs.Refused.{refuse21, tagRefusal, verifyRefusal, reportRefusal, replaceRefusal}
+use Rattle.tagging.specs.Tagging.{keysIn, tagHead}
+use Rattle.checks.specs.Refused.{refuse21, refuse25, tagRefusal, verifyRefusal, reportRefusal, replaceRefusal}
 
 -- ---- places
 
@@ -45,7 +46,9 @@ number-two (x ∷ y ∷ z ∷ rest) b h = absurd (omega arith)
 
 count-small : (s : List ℕ) → Bytes s → itemCount s < 65536
 unfolding itemCount number16
-count-small s b = number-two (take 2 (drop 5 s)) (take-bytes 2 (drop 5 s) (drop-bytes 5 s b)) (simp length-take (omega arith))
+count-small s b =
+    let at = frontSize (versionOf s) in
+    number-two (take 2 (drop at s)) (take-bytes 2 (drop at s) (drop-bytes at s b)) (simp length-take (omega arith))
 
 -- ---- 5
 
@@ -79,7 +82,7 @@ place2 c = small (known c) 2
 
 place3 : (s : List ℕ) → refuse3 s .place ≤ 65536
 unfolding refuse3
-place3 s = small ((leb 7 (length s) && leb (length s) 65536) && same (take 5 s) prefix) 3
+place3 s = small (beginsAs messageLetters newestMessage (itemsAt (versionOf s)) s && leb (length s) 65536) 3
 
 place4 : (c n : ℕ) → refuse4 c n .place ≤ 65536
 unfolding refuse4
@@ -87,7 +90,8 @@ place4 c n = small (inside (familyOf c .items) n) 4
 
 place6 : (f : List ℕ) → refuse6 f .place ≤ 65536
 unfolding refuse6
-place6 f = small ((leb 24 (length f) && same (take 5 f) tagPrefix) && (countFits (codeOf f) (countOf f) && eqb (length f) (fileSize (codeOf f)))) 6
+place6 f =
+    small (beginsAs tagLetters newestTagFile (tagsAt (versionOf f) + 16) f && (countFits (codeOf f) (countOf f) && eqb (length f) (fileSize (headOf f)))) 6
 
 place7 : (size room : ℕ) → refuse7 size room .place ≤ 65536
 unfolding refuse7
@@ -109,20 +113,24 @@ place21 : (s f : List ℕ) → refuse21 s f .place ≤ 65536
 unfolding refuse21
 place21 s f = small (eqb (itemCount s) (countOf f)) 21
 
+place25 : (s f : List ℕ) → refuse25 s f .place ≤ 65536
+unfolding refuse25
+place25 s f = small (eqb (stampOf s .number) (stampOf f .number)) 25
+
 -- ---- each call
 
 module _ (keys s : List ℕ) (bytes : Bytes s) where
   pub tag-place : (c room : ℕ) → tagRefusal keys c s room .place ≤ 65536
   unfolding tagRefusal
   tag-place c room =
-      first-place 65536 (refuse1 (length keys) ∷ refuse2 c ∷ refuse3 s ∷ refuse4 c (itemCount s) ∷ refuse5 s ∷ refuse7 (fileSize c) room ∷ [])
-      (place1 (length keys), (place2 c, (place3 s, (place4 c (itemCount s), (place5 s bytes, (place7 (fileSize c) room, tt))))))
+      first-place 65536 (refuse1 (length keys) ∷ refuse2 c ∷ refuse3 s ∷ refuse4 c (itemCount s) ∷ refuse5 s ∷ refuse7 (fileSize (tagHead c s)) room ∷ [])
+      (place1 (length keys), (place2 c, (place3 s, (place4 c (itemCount s), (place5 s bytes, (place7 (fileSize (tagHead c s)) room, tt))))))
 
   pub verify-place : (f : List ℕ) → verifyRefusal keys s f .place ≤ 65536
   unfolding verifyRefusal
   verify-place f =
-      first-place 65536 (refuse1 (length keys) ∷ refuse3 s ∷ refuse5 s ∷ refuse6 f ∷ refuse20 (keysIn keys .seal) f ∷ refuse21 s f ∷ [])
-      (place1 (length keys), (place3 s, (place5 s bytes, (place6 f, (place20 (keysIn keys .seal) f, (place21 s f, tt))))))
+      first-place 65536 (refuse1 (length keys) ∷ refuse3 s ∷ refuse5 s ∷ refuse6 f ∷ refuse20 (keysIn keys .seal) f ∷ refuse21 s f ∷ refuse25 s f ∷ [])
+      (place1 (length keys), (place3 s, (place5 s bytes, (place6 f, (place20 (keysIn keys .seal) f, (place21 s f, (place25 s f, tt)))))))
 
   pub report-place : (f : List ℕ) (room : ℕ) → reportRefusal keys s f room .place ≤ 65536
   unfolding reportRefusal
@@ -133,7 +141,7 @@ unfolding replaceRefusal
 replace-place keys f j old new room =
     first-place 65536
     (refuse1 (length keys) ∷ refuse6 f ∷ refuse20 (keysIn keys .seal) f ∷ refuse8 (countOf f) j ∷ refuse9 (length old) 1 ∷ refuse9 (length new) 2
-    ∷ refuse7 (fileSize (codeOf f)) room ∷ []) (
+    ∷ refuse7 (fileSize (headOf f)) room ∷ []) (
       place1 (length keys),
       (
         place6 f,
@@ -143,7 +151,7 @@ replace-place keys f j old new room =
             place8 (countOf f) j,
             (
               place9 (length old) 1 (omega arith),
-              (place9 (length new) 2 (omega arith), (place7 (fileSize (codeOf f)) room, tt)),
+              (place9 (length new) 2 (omega arith), (place7 (fileSize (headOf f)) room, tt)),
             ),
           ),
         ),

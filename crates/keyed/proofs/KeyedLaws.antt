@@ -1,27 +1,29 @@
 -- Hashes, masks and tags are blocks; a tag gives its sum back, and a sum its tag; what a key made ready or expanded gives is what the key
 -- gives; and the walks over many blocks.
-use Rattle.fips197.proofs.Kit.{_≡_, refl, ap, _∙_, List, _++_, ℕ, zero, suc, _+_, _*_, _≤_, _<_, arith, length, take, drop, length-take, length-drop}
+use Rattle.fips197.proofs.Kit.{_≡_, refl, sym, ap, _∙_, List, _++_, ℕ, zero, suc, _+_, _*_, _%_, _≤_, _<_, arith, length, take, drop, length-take, length-drop}
 use Rattle.blocks.specs.Block.{Bytes, Block, _⊕_, zeros, slot, listOf}
 use Rattle.blocks.specs.Number.{bigEndian}
 use Rattle.cipher.specs.Aes.{keyExpansion, cipher, invCipher, encipher, decipher}
-use Rattle.cipher.specs.Cmac.{ready}
+use Rattle.cipher.specs.Cmac.{cmac, macWith, ready}
 use Rattle.cipher.specs.declared.cmac.MacKey.{MacKey}
 use Rattle.blocks.proofs.Xor.{⊕-length, ⊕-block, ⊕-comm, block-cancel, zeros-block, append-bytes}
-use Rattle.blocks.proofs.Numbers.{bigEndian-bytes}
+use Rattle.blocks.proofs.Numbers.{bigEndian-bytes, bigEndian-pair}
 use Rattle.blocks.proofs.Doubling.{double-block}
 use Rattle.blocks.proofs.Slots.{Front, slot-length, place-next, second-walk}
-use Rattle.cipher.proofs.Laws.{with-length, inv-with-length, encipher-block, decipher-block, encipher-length, decipher-length, decipher-encipher, encipher-decipher, cmac-block, mac-ready}
+use Rattle.cipher.proofs.Laws.{with-length, inv-with-length, encipher-block, decipher-block, encipher-length, decipher-length, decipher-encipher, encipher-decipher, cmac-block, cmac-length, mac-ready}
+use Rattle.stamp.specs.declared.Stamp.{Stamp}
 use Rattle.keyed.specs.Keyed.{itemHash, itemHashBy, doubled, maskBy, tagBy, tagOf, sumBy, sumOfTag, tagsBy, sumsBy}
 
 -- ---- what is handed over for a key
 
 -- a key made ready
-pub hash-ready : (key : List ℕ) (k : MacKey) (j : ℕ) (item : List ℕ) → k ≡ ready key → itemHashBy k j item ≡ itemHash key j item
+pub hash-ready : (key : List ℕ) (k : MacKey) (st : Stamp) (j : ℕ) (item : List ℕ) → k ≡ ready key → itemHashBy (macWith k) st j item ≡ itemHash key st j item
 unfolding itemHashBy itemHash
-hash-ready key k j item e = mac-ready key k (bigEndian 8 j ++ item) e
+hash-ready key k st j item e = mac-ready key k ((bigEndian 4 (st .number) ++ bigEndian 4 j) ++ item) e
 
-pub hashes-ready : (key : List ℕ) (k : MacKey) (items : ℕ → List ℕ) → k ≡ ready key → _≡_ {A = ℕ → List ℕ} (λ j. itemHashBy k j (items j)) (λ j. itemHash key j (items j))
-hashes-ready key k items e = λ i j. hash-ready key k j (items j) e i
+pub hashes-ready : (key : List ℕ) (k : MacKey) (st : Stamp) (items : ℕ → List ℕ) → k ≡ ready key
+    → _≡_ {A = ℕ → List ℕ} (λ j. itemHashBy (macWith k) st j (items j)) (λ j. itemHash key st j (items j))
+hashes-ready key k st items e = λ i j. hash-ready key k st j (items j) e i
 
 -- an expanded key, in what is written before the rest of a buffer
 pub tags-expanded : (key w s out rest : List ℕ) (n : ℕ) → w ≡ keyExpansion key → out ≡ tagsBy (cipher w) s n ++ rest → out ≡ tagsBy (encipher key) s n ++ rest
@@ -33,12 +35,32 @@ pub sums-expanded : (key w s out rest : List ℕ) (n : ℕ) → w ≡ keyExpansi
 unfolding encipher decipher
 sums-expanded key w s out rest n e o = o ∙ ap (λ (v : List ℕ). sumsBy (cipher v) (invCipher v) s n ++ rest) e
 
+-- ---- hashes
+
+-- "Version 1 counts as number 0, with the same codes as before": CMAC "of j as 8 big-endian bytes followed by the card"
+pub first-version : (key : List ℕ) (st : Stamp) (j : ℕ) (item : List ℕ) → st .number ≡ 0 → j < 4294967296
+    → itemHash key st j item ≡ cmac key (bigEndian 8 j ++ item)
+unfolding itemHash itemHashBy
+first-version key st j item e l =
+    let z : 0 * 4294967296 + j % 4294967296 ≡ j = omega arith in
+    ap (λ (t : List ℕ). cmac key (t ++ item))
+    (ap (λ (n : ℕ). bigEndian 4 n ++ bigEndian 4 j) e ∙ sym (bigEndian-pair 0 j) ∙ ap (bigEndian 8) z)
+
+-- a hash has 16 bytes, whatever the item
+pub itemHash-length : (key : List ℕ) → length key ≡ 16 → (st : Stamp) (j : ℕ) (item : List ℕ) → length (itemHash key st j item) ≡ 16
+unfolding itemHash itemHashBy
+itemHash-length key h st j item = cmac-length key h _
+
 -- ---- blocks
 
 module _ (key : List ℕ) (hk : Block key) where
-  pub itemHash-block : (j : ℕ) (item : List ℕ) → Bytes item → Block (itemHash key j item)
-  unfolding itemHash
-  itemHash-block j item h = cmac-block key hk (bigEndian 8 j ++ item) (append-bytes (bigEndian 8 j) item (bigEndian-bytes 8 j) h)
+  pub itemHash-block : (st : Stamp) (j : ℕ) (item : List ℕ) → Bytes item → Block (itemHash key st j item)
+  unfolding itemHash itemHashBy
+  itemHash-block st j item h =
+      let a = bigEndian 4 (st .number) in
+      let b = bigEndian 4 j in
+      cmac-block key hk ((a ++ b) ++ item)
+      (append-bytes (a ++ b) item (append-bytes a b (bigEndian-bytes 4 (st .number)) (bigEndian-bytes 4 j)) h)
 
   mask-block : (i : ℕ) → Block (maskBy (encipher key) i)
   unfolding maskBy doubled

@@ -1,21 +1,22 @@
 -- The keyed functions of the scheme (000, section 4.3: F and G; document 01, 'Keys and codes'), under a key. Those whose names end in By are
--- over what a caller with many blocks hands over instead: a key made ready, or the block cipher `ciph` under an expanded key, with
--- `deciph` its inverse. Assumes nothing.
+-- over what a caller with many blocks hands over instead: the MAC `mac` of a key made ready, or the block cipher `ciph` under an expanded
+-- key, with `deciph` its inverse. Assumes nothing.
 use mathlib.Core.List.{List, _++_}
 use Prim.Native.Nat.{ℕ, zero, suc}
 use Rattle.blocks.specs.Block.{_⊕_, zeros, slot, listOf}
 use Rattle.blocks.specs.Number.{bigEndian}
 use Rattle.blocks.specs.Double.{double}
 use Rattle.cipher.specs.Aes.{encipher, decipher}
-use Rattle.cipher.specs.Cmac.{cmac, macWith}
-use Rattle.cipher.specs.declared.cmac.MacKey.{MacKey}
+use Rattle.cipher.specs.Cmac.{cmac}
+use Rattle.stamp.specs.declared.Stamp.{Stamp}
 
--- 000: F_K^j(M[j]); document 01, code of card j: "CMAC under the card key of j as 8 big-endian bytes followed by the card"
-unfoldable pub itemHash : List ℕ → ℕ → List ℕ → List ℕ
-itemHash key j item = cmac key (bigEndian 8 j ++ item)
+-- 000: F_K^j(M[j]); document 01: code of card j; document 02, 2.3: "A card's code now starts with the shelf number and the card number, 4
+-- bytes each", followed by the card. In number 0 that is version 1's code (proofs/KeyedLaws.antt: first-version).
+unfoldable pub itemHashBy : (List ℕ → List ℕ) → Stamp → ℕ → List ℕ → List ℕ
+itemHashBy mac st j item = mac ((bigEndian 4 (st .number) ++ bigEndian 4 j) ++ item)
 
-unfoldable pub itemHashBy : MacKey → ℕ → List ℕ → List ℕ
-itemHashBy k j item = macWith k (bigEndian 8 j ++ item)
+unfoldable pub itemHash : List ℕ → Stamp → ℕ → List ℕ → List ℕ
+itemHash key st j item = itemHashBy (cmac key) st j item
 
 -- a block doubled i times
 unfoldable pub doubled : List ℕ → ℕ → List ℕ

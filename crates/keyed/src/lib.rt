@@ -4,19 +4,22 @@ use blocks::block;
 use cipher::aes;
 use cipher::cmac;
 use cipher::cmac::MacKey;
+use stamp::Stamp;
 ghost use mathlib.Core.Path.{_≡_};
 ghost use mathlib.Core.List.{_++_};
 ghost use Prim.Native.Nat.{suc, _*_, _≤_};
 ghost use lib.ListN.{length, drop};
 ghost use Rattle.blocks.specs.Block.{_⊕_, slot, listOf};
 ghost use Rattle.cipher.specs.Aes.{cipher, invCipher};
+ghost use Rattle.cipher.specs.Cmac.{macWith};
 ghost use Rattle.keyed.specs.Keyed.{itemHashBy, doubled, maskBy, tagsBy, sumsBy};
 
-// The hash of item j under a key made ready (document 01: code of card j).
-pub fn item_hash(k: MacKey, j: u64, item: &[u8]) -> [u8; 16]
-    ensures { λ r. ⌜ r ≡ itemHashBy k j (now (item .entry)) ⌝ }
+// The hash of item j of the message that has this stamp, under a key made ready (document 01: code of card j).
+pub fn item_hash(k: MacKey, stamp: Stamp, j: u64, item: &[u8]) -> [u8; 16]
+    ensures { λ r. ⌜ r ≡ itemHashBy (macWith k) stamp j (now (item .entry)) ⌝ }
 {
-    cmac::mac_of_parts(k, &block::to_be64(j), item)
+    let numbers = (stamp.number as u64) * 0x1_0000_0000 + j % 0x1_0000_0000;
+    cmac::mac_of_parts(k, &block::to_be64(numbers), item)
 }
 
 // The mask before the first, with an expanded key: `block::double` gives each next one.

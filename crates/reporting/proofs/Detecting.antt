@@ -1,20 +1,19 @@
--- Demand 3 of what is printed: where the first message is tagged and the second is a message of as many items, the lines are those of a report
+-- Demand 3 of what is printed: where the first message is tagged and the second is a message of as many items with the same number, the lines are those of a report
 -- that is not refused (scheme, Guarantees), of which the demand holds (scheme, Claiming).
-use Rattle.fips197.proofs.Kit.{_≡_, refl, sym, ap, _∙_, Bool, true, List, ℕ, _≤_, arith, drop, le-leb}
+use Rattle.fips197.proofs.Kit.{_≡_, refl, sym, ap, _∙_, Bool, true, List, ℕ, _≤_, arith, drop}
 use Rattle.blocks.specs.Block.{if_then_else_, Bytes, zeros}
 use Rattle.blocks.proofs.Xor.{take-bytes, drop-bytes}
-use Rattle.incidence.proofs.Booleans.{and-both}
-use Rattle.sizes.specs.Sizes.{familyOf}
 use Rattle.sizes.proofs.Laws.{items-few}
+use Rattle.stamp.specs.Front.{stampOf}
 use Rattle.files.specs.Refusals.{none}
 use Rattle.files.specs.Message.{itemCount, item, refuse3, refuse5}
-use Rattle.files.specs.TagFile.{headFor, countFits}
+use Rattle.files.specs.TagFile.{stampFor}
 use Rattle.files.proofs.Passing.{given}
-use Rattle.tagging.specs.Tagging.{keysIn, tagFile}
+use Rattle.tagging.specs.Tagging.{keysIn, tagFile, tagHead}
 use Rattle.checks.specs.Refused.{tagRefusal, reportRefusal}
-use Rattle.scheme.specs.Calls.{reportAnswer, reportNamed, reportRows, reportWrites}
+use Rattle.scheme.specs.Calls.{stampIn, reportAnswer, reportNamed, reportRows, reportWrites}
 use Rattle.checks.proofs.Checking.{taggable, reportable}
-use Rattle.scheme.proofs.Guarantees.{item-bytes, report-passes}
+use Rattle.scheme.proofs.Guarantees.{report-passes, tag-fits, tag-unaltered}
 use Rattle.scheme.proofs.Claiming.{claim}
 use Rattle.printing.specs.Text.{ascii}
 use Rattle.printing.specs.Lines.{reportLines}
@@ -36,7 +35,7 @@ module _ (input : List ℕ) (bytes : Bytes input) where
   second = secondMessage input
 
   abbrev file : List ℕ
-  file = tagFile (keysIn keys) (headFor code (itemCount first)) (item first)
+  file = tagFile (keysIn keys) (tagHead code first) (item first)
 
   keys-bytes : Bytes keys
   unfolding keyBytes
@@ -46,30 +45,21 @@ module _ (input : List ℕ) (bytes : Bytes input) where
   unfolding firstMessage
   first-bytes = take-bytes (firstSize input) (drop 51 input) (drop-bytes 51 input bytes)
 
-  module _ (yes : readable input ≡ true) (tags : tagRefusal keys code first 1336 ≡ none) (head : refuse3 second ≡ none) (whole : refuse5 second ≡ none)
-      (same : itemCount second ≡ itemCount first) where
-    fit : countFits code (itemCount second) ≡ true
-    unfolding countFits
-    fit =
-        let T = taggable keys code first 1336 none (sym tags) refl in
-        ap (countFits code) same
-        ∙ and-both (T .code) (and-both (le-leb 1 (itemCount first) (T .low)) (le-leb (itemCount first) (familyOf code .items) (T .high)))
-
+  module _ (yes : readable input ≡ true) (tags : tagRefusal keys code first 1340 ≡ none) (head : refuse3 second ≡ none) (whole : refuse5 second ≡ none)
+      (same : itemCount second ≡ itemCount first) (number : stampOf second .number ≡ stampOf first .number) where
     few : itemCount second ≤ 273
     few =
-        let T = taggable keys code first 1336 none (sym tags) refl in
+        let T = taggable keys code first 1340 none (sym tags) refl in
         let h = T .high in
         let i = items-few code in
         omega (arith, h, i, same)
 
-    file-so : file ≡ tagFile (keysIn keys) (headFor code (itemCount second)) (item first)
-    file-so = ap (λ (n : ℕ). tagFile (keysIn keys) (headFor code n) (item first)) (sym same)
-
     passes-report : reportRefusal keys second file 273 ≡ none
+    unfolding tagHead stampFor
     passes-report =
-        let T = taggable keys code first 1336 none (sym tags) refl in
-        ap (λ (f : List ℕ). reportRefusal keys second f 273) file-so
-        ∙ report-passes keys second code 273 (item first) keys-bytes (T .keys48) head whole fit (λ j l u. item-bytes first first-bytes j) few
+        let T = taggable keys code first 1340 none (sym tags) refl in
+        report-passes keys second file keys-bytes (T .keys48) head whole (tagHead code first) (item first) (tag-unaltered keys code first 1340 first-bytes tags)
+        (tag-fits keys code first 1340 first-bytes tags) (sym same) 273 number few
 
     abbrev lent : List ℕ
     lent = zeros 273
@@ -84,13 +74,13 @@ module _ (input : List ℕ) (bytes : Bytes input) where
 
     -- every sentence of demand 3 holds of what is printed
     pub detected : Detected input
-    unfolding reportWrites reportNamed reportAnswer
+    unfolding reportWrites reportNamed reportAnswer tagHead stampFor stampIn
     detected =
         let e = sym passes-report in
         let R = reportable keys second file 273 none e refl in
         let g = claim keys second file (reportWrites keys second file lent) _ 273 (reportNamed keys second file lent) (reportAnswer keys second file lent) keys-bytes R
         (sym (given none (reportRefusal keys second file 273) e _ _ refl)) (sym (given none (reportRefusal keys second file 273) e _ _ refl))
-        (sym (given none (reportRefusal keys second file 273) e _ _ refl)) code (item first) (λ j l u. item-bytes first first-bytes j) file-so in
+        (sym (given none (reportRefusal keys second file 273) e _ _ refl)) (tagHead code first) (item first) (tag-unaltered keys code first 1340 first-bytes tags) (sym same) in
         record {
           said = reportAnswer keys second file lent;
           names = reportNamed keys second file lent;

@@ -5,9 +5,9 @@ use Rattle.blocks.proofs.Slots.{slot-length}
 use Rattle.incidence.specs.declared.Answer.{Answer}
 use Rattle.files.specs.declared.Refusal.{Refusal}
 use Rattle.files.specs.Message.{number16, itemCount, item}
-use Rattle.files.specs.TagFile.{headFor, fileSize}
+use Rattle.files.specs.TagFile.{fileSize}
 use Rattle.files.proofs.Passing.{given, kept}
-use Rattle.tagging.specs.Tagging.{keysIn, tagSum, tagFile}
+use Rattle.tagging.specs.Tagging.{keysIn, tagSum, tagFile, tagHead}
 use Rattle.tagging.proofs.Writing.{file-length}
 use Rattle.checks.specs.Refused.{tagRefusal, reportRefusal}
 use Rattle.scheme.specs.Calls.{tagWrites, reportAnswer, reportNamed, reportRows, reportWrites}
@@ -37,31 +37,31 @@ module _ (keys : List ℕ) (c n : ℕ) (s f : List ℕ) (r : Refusal) (e : r ≡
 
 -- ---- and the tags before it
 
-module _ (keys : List ℕ) (c : ℕ) (s second : List ℕ) (r : Refusal) (e : r ≡ tagRefusal keys c s 1336) where
+module _ (keys : List ℕ) (c : ℕ) (s second : List ℕ) (r : Refusal) (e : r ≡ tagRefusal keys c s 1340) where
   abbrev file : List ℕ
-  file = tagFile (keysIn keys) (headFor c (itemCount s)) (item s)
+  file = tagFile (keysIn keys) (tagHead c s) (item s)
 
   pub tag-refused : (r .number ≡ 0 → ⊥) → refusedLine r ≡ tagText keys c s second
   unfolding tagText
-  tag-refused h = ap refusedLine e ∙ kept r (tagRefusal keys c s 1336) e (reportText keys c (itemCount s) second file) (refusedLine (tagRefusal keys c s 1336)) h
+  tag-refused h = ap refusedLine e ∙ kept r (tagRefusal keys c s 1340) e (reportText keys c (itemCount s) second file) (refusedLine (tagRefusal keys c s 1340)) h
 
   pub tag-done : r .number ≡ 0 → (n : ℕ) (f : List ℕ) → n ≡ itemCount s → f ≡ file → reportText keys c n second f ≡ tagText keys c s second
   unfolding tagText
   tag-done h n f en ef =
-      (λ i. reportText keys c (en i) second (ef i)) ∙ given r (tagRefusal keys c s 1336) e (reportText keys c (itemCount s) second file) (refusedLine (tagRefusal keys c s 1336)) h
+      (λ i. reportText keys c (en i) second (ef i)) ∙ given r (tagRefusal keys c s 1340) e (reportText keys c (itemCount s) second file) (refusedLine (tagRefusal keys c s 1340)) h
 
   -- the front of the buffer is the tag file
-  pub tag-file : r .number ≡ 0 → (end : ℕ) (out : List ℕ) → end ≡ fileSize c → out ≡ tagWrites keys c s (zeros 1336)
+  pub tag-file : r .number ≡ 0 → (end : ℕ) (out : List ℕ) → end ≡ fileSize (tagHead c s) → out ≡ tagWrites keys c s (zeros 1340)
       → take (end - 0) out ≡ file
   unfolding tagWrites tagFile keysIn
   tag-file h end out ee eo =
-      let T = taggable keys c s 1336 r e h in
+      let T = taggable keys c s 1340 r e h in
       let K = keysIn keys in
-      let size : length file ≡ fileSize c
-      = file-length K (headFor c (itemCount s)) (tagSum K c (item s) (itemCount s)) (slot-length keys 1 (omega (arith, T .keys48))) (slot-length keys 2 (omega (arith, T .keys48))) in
+      let size : length file ≡ fileSize (tagHead c s)
+      = file-length K (tagHead c s) (tagSum K (tagHead c s .stamp) (tagHead c s .code) (item s) (tagHead c s .count)) (slot-length keys 1 (omega (arith, T .keys48))) (slot-length keys 2 (omega (arith, T .keys48))) in
       let long : length file ≡ end - 0 = size ∙ omega (arith, ee) in
-      let whole : out ≡ file ++ drop (fileSize c) (zeros 1336) = eo ∙ sym (given r (tagRefusal keys c s 1336) e (file ++ drop (fileSize c) (zeros 1336)) (zeros 1336) h) in
-      ap (take (end - 0)) whole ∙ take-at file (drop (fileSize c) (zeros 1336)) (end - 0) long
+      let whole : out ≡ file ++ drop (fileSize (tagHead c s)) (zeros 1340) = eo ∙ sym (given r (tagRefusal keys c s 1340) e (file ++ drop (fileSize (tagHead c s)) (zeros 1340)) (zeros 1340) h) in
+      ap (take (end - 0)) whole ∙ take-at file (drop (fileSize (tagHead c s)) (zeros 1340)) (end - 0) long
 
 -- ---- the input
 

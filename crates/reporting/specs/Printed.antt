@@ -7,8 +7,7 @@ use lib.ListN.{length, getD, take, drop}
 use Rattle.blocks.specs.Block.{if_then_else_, zeros}
 use Rattle.files.specs.Refusals.{passes}
 use Rattle.files.specs.Message.{number16, itemCount, item}
-use Rattle.files.specs.TagFile.{headFor}
-use Rattle.tagging.specs.Tagging.{keysIn, tagFile}
+use Rattle.tagging.specs.Tagging.{keysIn, tagFile, tagHead}
 use Rattle.checks.specs.Refused.{tagRefusal, reportRefusal}
 use Rattle.scheme.specs.Calls.{reportAnswer, reportNamed, reportRows, reportWrites}
 use Rattle.printing.specs.Text.{ascii}
@@ -46,9 +45,9 @@ reportText keys c n s f =
 -- "It tags the first and reports the second."
 unfoldable pub tagText : List ℕ → ℕ → List ℕ → List ℕ → List ℕ
 tagText keys c s second =
-    if passes (tagRefusal keys c s 1336)
-    then reportText keys c (itemCount s) second (tagFile (keysIn keys) (headFor c (itemCount s)) (item s))
-    else refusedLine (tagRefusal keys c s 1336)
+    if passes (tagRefusal keys c s 1340)
+    then reportText keys c (itemCount s) second (tagFile (keysIn keys) (tagHead c s) (item s))
+    else refusedLine (tagRefusal keys c s 1340)
 
 -- "Input under 51 or over 65,536 bytes, or a length past the end, prints only "unreadable"."
 unfoldable pub printed : List ℕ → List ℕ

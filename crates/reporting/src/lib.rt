@@ -49,9 +49,9 @@ fn put_both(keys: &[u8], code: u64, first: &[u8], second: &[u8], out: &mut [u8])
     if refused.number != 0 {
         return printing::put_refused(out, 0, refused);
     }
-    let n = message::item_count(first);
-    let end = tagfile::file_size(code);
-    put_report(keys, code, n, second, &file[0..end], out)
+    let head = tagging::head_for(code, first);
+    let end = tagfile::file_size(head);
+    put_report(keys, code, head.count, second, &file[0..end], out)
 }
 
 // Puts what is printed for an input to the front of out, and gives its length; the bytes behind stay.

@@ -5,6 +5,7 @@ use Rattle.blocks.specs.Block.{Bytes, same}
 use Rattle.blocks.proofs.Xor.{same-true, same-eq}
 use Rattle.incidence.specs.Count.{countUpTo}
 use Rattle.incidence.specs.Count.{indicator}
+use Rattle.incidence.specs.Family.{Family}
 use Rattle.incidence.specs.Sum.{rowSum}
 use Rattle.incidence.specs.Report.{named, numberNamed, answer}
 use Rattle.incidence.specs.Detection.{Detects, QuietRowsAgree, ChangedRowsDisagree}
@@ -17,14 +18,19 @@ use Rattle.incidence.proofs.Rejects.{detects-as}
 use Rattle.sizes.specs.Sizes.{familyOf}
 use Rattle.sizes.proofs.Laws.{lawful}
 use Rattle.files.specs.Message.{itemCount, item}
-use Rattle.files.specs.TagFile.{headFor, tagPrefix, header, body, sealed, codeOf, countFits}
+use Rattle.stamp.specs.declared.Stamp.{Stamp}
+use Rattle.stamp.specs.Front.{stampFits, stampOf}
+use Rattle.files.specs.declared.tagfile.Head.{Head}
+use Rattle.files.specs.TagFile.{newestTagFile, codeOf, headOf, countFits}
+use Rattle.files.proofs.Accepted.{code-is, stamp-is}
 use Rattle.decoding.specs.Decoding.{marksOf}
 use Rattle.tagging.specs.declared.Keys.{Keys}
 use Rattle.tagging.specs.Tagging.{keysIn, hashes, fileOf, tagFile}
-use Rattle.scheme.specs.Calls.{sumFrom, agrees}
-use Rattle.scheme.specs.Claim.{changed, NoRowCancels, marked, Claim}
+use Rattle.scheme.specs.Calls.{stampIn, sumFrom, agrees}
+use Rattle.scheme.specs.Claim.{Unaltered, changed, NoRowCancels, marked, Claim}
 use Rattle.checks.specs.Passed.{Reportable}
-use Rattle.scheme.proofs.Unaltered.{KeyBlocks, key-blocks, hashes-long, fit-code, fit-count, code-is, rows-back}
+use Rattle.scheme.proofs.Unaltered as U
+use Rattle.scheme.proofs.Unaltered.{KeyBlocks, key-blocks, hashes-long}
 
 -- ---- the marks written
 
@@ -57,32 +63,52 @@ marked-is p n rest marks e j l u =
 
 -- ---- the claim
 
-module _ (K : Keys) (B : KeyBlocks K) (s : List ℕ) (c : ℕ) (fit : countFits c (itemCount s) ≡ true) (old : ℕ → List ℕ)
-    (bytes : (j : ℕ) → 1 ≤ j → j ≤ itemCount s → Bytes (old j)) where
-  -- against the unaltered file, a row agrees where its sum is as it was
-  row-agrees : (i : ℕ) → 1 ≤ i → i ≤ familyOf c .rows
-      → agrees K s (tagFile K (headFor c (itemCount s)) old) i ≡ same (rowSum (familyOf c) (hashes K (item s)) (itemCount s) i) (rowSum (familyOf c) (hashes K old) (itemCount s) i)
-  unfolding agrees sumFrom
-  row-agrees i l u =
-      ap₂ same (ap (λ (x : ℕ). rowSum (familyOf x) (hashes K (item s)) (itemCount s) i) (code-is K B c (itemCount s) fit old bytes)) (rows-back K B c (itemCount s) fit old bytes i l u)
+module _ (K : Keys) (B : KeyBlocks K) (s : List ℕ) (h : Head) (stamped : stampFits newestTagFile (h .stamp) ≡ true) (fit : countFits (h .code) (h .count) ≡ true)
+    (old : ℕ → List ℕ) (bytes : (j : ℕ) → 1 ≤ j → j ≤ h .count → Bytes (old j)) (count : h .count ≡ itemCount s) (number : stampOf s .number ≡ h .stamp .number) where
+  abbrev F : Family
+  F = familyOf (h .code)
 
-  quiet : QuietRowsAgree (familyOf c) (itemCount s) (changed old (item s)) (agrees K s (tagFile K (headFor c (itemCount s)) old))
+  abbrev n : ℕ
+  n = itemCount s
+
+  abbrev f : List ℕ
+  f = tagFile K h old
+
+  -- the items reported are hashed under the old stamp
+  abbrev st : Stamp
+  st = stampIn (h .stamp .version) s
+
+  same-stamp : st ≡ h .stamp
+  unfolding stampIn
+  same-stamp = λ i. record { version = h .stamp .version; number = number i }
+
+  head-is : headOf f ≡ h
+  head-is = U.head-is K B h stamped fit old bytes
+
+  -- against the unaltered file, a row agrees where its sum is as it was
+  row-agrees : (i : ℕ) → 1 ≤ i → i ≤ F .rows → agrees K s f i ≡ same (rowSum F (hashes K st (item s)) n i) (rowSum F (hashes K (h .stamp) old) n i)
+  unfolding agrees sumFrom headOf stampOf
+  row-agrees i l u =
+      ap₂ same (ap (λ (x : Head). rowSum (familyOf (x .code)) (hashes K (stampIn (x .stamp .version) s) (item s)) n i) head-is)
+      (U.rows-back K B h stamped fit old bytes i l u ∙ ap (λ (x : ℕ). rowSum F (hashes K (h .stamp) old) x i) count)
+
+  quiet : QuietRowsAgree F n (changed old (item s)) (agrees K s f)
   unfolding changed hashes
-  quiet i l u h =
+  quiet i l u h′ =
       row-agrees i l u
-      ∙ same-eq _ _ (sym (rowSum-same (familyOf c) (hashes K old) (hashes-long K (B .item .long) old) (itemCount s) (hashes K (item s)) i
-      (λ j a b o. ap (λ (x : List ℕ). hashes K (λ m. x) j) (same-true (old j) (item s j) (unchanged j a b o)))))
+      ∙ same-eq _ _ (sym (rowSum-same F (hashes K (h .stamp) old) (hashes-long K (B .item .long) (h .stamp) old) n (hashes K st (item s)) i
+      (λ j a b o. ap₂ (λ (t : Stamp) (x : List ℕ). hashes K t (λ m. x) j) (sym same-stamp) (same-true (old j) (item s j) (unchanged j a b o)))))
     where
-      unchanged : (j : ℕ) → 1 ≤ j → j ≤ itemCount s → familyOf c .on i j ≡ true → same (old j) (item s j) ≡ true
+      unchanged : (j : ℕ) → 1 ≤ j → j ≤ n → F .on i j ≡ true → same (old j) (item s j) ≡ true
       unchanged j a b o = go (same (old j) (item s j)) refl
         where
           go : (t : Bool) → same (old j) (item s j) ≡ t → same (old j) (item s j) ≡ true
           go true e = e
-          go false e = absurd (not-both (familyOf c .on i j) o (h j a b (ap not e)))
+          go false e = absurd (not-both (F .on i j) o (h′ j a b (ap not e)))
 
-  loud : NoRowCancels (familyOf c) K old (item s) (itemCount s) → ChangedRowsDisagree (familyOf c) (itemCount s) (changed old (item s)) (agrees K s (tagFile K (headFor c (itemCount s)) old))
+  loud : NoRowCancels F K (h .stamp) st old (item s) n → ChangedRowsDisagree F n (changed old (item s)) (agrees K s f)
   loud none i j l u a b ch o =
-      not-passed (agrees K s (tagFile K (headFor c (itemCount s)) old) i) (λ t. none i (record {
+      not-passed (agrees K s f i) (λ t. none i (record {
         low = l;
         high = u;
         at = j;
@@ -93,32 +119,36 @@ module _ (K : Keys) (B : KeyBlocks K) (s : List ℕ) (c : ℕ) (fit : countFits 
         equal = sym (same-true _ _ (sym (row-agrees i l u) ∙ t));
       }))
 
-  claimed : (f marks rest : List ℕ) (names : ℕ) (said : Answer) → f ≡ tagFile K (headFor c (itemCount s)) old
-      → marks ≡ marksOf (named (familyOf (codeOf f)) (agrees K s f)) (itemCount s) ++ rest
-      → names ≡ numberNamed (familyOf (codeOf f)) (agrees K s f) (itemCount s)
-      → said ≡ answer (familyOf (codeOf f)) (agrees K s f) (itemCount s)
-      → Detects (familyOf c .limit) (itemCount s) (NoRowCancels (familyOf c) K old (item s) (itemCount s)) (changed old (item s)) (marked marks) said
-      × (names ≡ countUpTo (marked marks) (itemCount s))
-  unfolding numberNamed
-  claimed f marks rest names said ef em en es =
-      let F = familyOf c in
-      let A = agrees K s (tagFile K (headFor c (itemCount s)) old) in
-      let e = code-is K B c (itemCount s) fit old bytes in
-      let m = em ∙ ap (λ (x : List ℕ). marksOf (named (familyOf (codeOf x)) (agrees K s x)) (itemCount s) ++ rest) ef
-      ∙ ap (λ (x : ℕ). marksOf (named (familyOf x) A) (itemCount s) ++ rest) e in
-      let a = es ∙ ap (λ (x : List ℕ). answer (familyOf (codeOf x)) (agrees K s x) (itemCount s)) ef ∙ ap (λ (x : ℕ). answer (familyOf x) A (itemCount s)) e in
-      let k = en ∙ ap (λ (x : List ℕ). numberNamed (familyOf (codeOf x)) (agrees K s x) (itemCount s)) ef ∙ ap (λ (x : ℕ). numberNamed (familyOf x) A (itemCount s)) e in (
-        subst (λ (x : Answer). Detects (F .limit) (itemCount s) (NoRowCancels F K old (item s) (itemCount s)) (changed old (item s)) (marked marks) x) (sym a)
-            (detects-as (F .limit) (itemCount s) _ _ (changed old (item s)) (named F A) (marked marks) (answer F A (itemCount s)) loud
-            (marked-is (named F A) (itemCount s) rest marks m)
-            (detects F (lawful c (fit-code K B c (itemCount s) fit old bytes)) (itemCount s) (fit-count K B c (itemCount s) fit old bytes) (changed old (item s)) A quiet)),
-        k ∙ sym (count-ext (marked marks) (named F A) (itemCount s) (marked-is (named F A) (itemCount s) rest marks m)),
+  claimed : (g marks rest : List ℕ) (names : ℕ) (said : Answer) → g ≡ f
+      → marks ≡ marksOf (named (familyOf (codeOf g)) (agrees K s g)) n ++ rest
+      → names ≡ numberNamed (familyOf (codeOf g)) (agrees K s g) n
+      → said ≡ answer (familyOf (codeOf g)) (agrees K s g) n
+      → Detects (F .limit) n (NoRowCancels F K (h .stamp) st old (item s) n) (changed old (item s)) (marked marks) said
+      × (names ≡ countUpTo (marked marks) n)
+  unfolding numberNamed headOf
+  claimed g marks rest names said ef em en es =
+      let A = agrees K s f in
+      let e = ap (λ (x : Head). x .code) head-is in
+      let m = em ∙ ap (λ (x : List ℕ). marksOf (named (familyOf (codeOf x)) (agrees K s x)) n ++ rest) ef ∙ ap (λ (x : ℕ). marksOf (named (familyOf x) A) n ++ rest) e in
+      let a = es ∙ ap (λ (x : List ℕ). answer (familyOf (codeOf x)) (agrees K s x) n) ef ∙ ap (λ (x : ℕ). answer (familyOf x) A n) e in
+      let k = en ∙ ap (λ (x : List ℕ). numberNamed (familyOf (codeOf x)) (agrees K s x) n) ef ∙ ap (λ (x : ℕ). numberNamed (familyOf x) A n) e in
+      let many = subst (λ (x : ℕ). x ≤ F .items) count (U.fit-count K B h stamped fit old bytes) in (
+        subst (λ (x : Answer). Detects (F .limit) n (NoRowCancels F K (h .stamp) st old (item s) n) (changed old (item s)) (marked marks) x) (sym a)
+            (detects-as (F .limit) n _ _ (changed old (item s)) (named F A) (marked marks) (answer F A n) loud
+            (marked-is (named F A) n rest marks m)
+            (detects F (lawful (h .code) (U.fit-code K B h stamped fit old bytes)) n many (changed old (item s)) A quiet)),
+        k ∙ sym (count-ext (marked marks) (named F A) n (marked-is (named F A) n rest marks m)),
       )
 
--- a file that says a code says the code that it was laid out for
-code-says : (K : Keys) (c n : ℕ) (items : ℕ → List ℕ) → codeOf (tagFile K (headFor c n) items) ≡ c
-unfolding tagFile fileOf sealed body header tagPrefix codeOf
-code-says K c n items = refl
+-- an unaltered file says the size code and the number that it was laid out for
+module _ (keys : List ℕ) (h : Head) (old : ℕ → List ℕ) (f : List ℕ) (U : Unaltered (keysIn keys) h old f) where
+  code-says : codeOf f ≡ h .code
+  unfolding tagFile fileOf
+  code-says = ap codeOf (U .file) ∙ code-is (keysIn keys .seal) h _ (U .stamped)
+
+  pub number-says : stampOf f .number ≡ h .stamp .number
+  unfolding tagFile fileOf
+  number-says = ap (λ (x : List ℕ). stampOf x .number) (U .file) ∙ ap (λ (x : Stamp). x .number) (stamp-is (keysIn keys .seal) h _ (U .stamped))
 
 -- of every report that is not refused
 pub claim : (keys s f marks rest : List ℕ) (room names : ℕ) (said : Answer) → Bytes keys → Reportable keys s f room
@@ -126,8 +156,7 @@ pub claim : (keys s f marks rest : List ℕ) (room names : ℕ) (said : Answer) 
     → names ≡ numberNamed (familyOf (codeOf f)) (agrees (keysIn keys) s f) (itemCount s)
     → said ≡ answer (familyOf (codeOf f)) (agrees (keysIn keys) s f) (itemCount s)
     → Claim keys s f marks names said
-claim keys s f marks rest room names said b R em en es c old bytes ef =
+claim keys s f marks rest room names said b R em en es h old U ec =
     let q = R .files in
-    let ec : codeOf f ≡ c = ap codeOf ef ∙ code-says (keysIn keys) c (itemCount s) old in
-    let fit : countFits c (itemCount s) ≡ true = ap₂ countFits (sym ec) (q .counts) ∙ q .file .fits in
-    claimed (keysIn keys) (key-blocks keys b (q .keys48)) s c fit old bytes f marks rest names said ef em en es
+    let fit : countFits (h .code) (h .count) ≡ true = ap₂ countFits (sym (code-says keys h old f U)) (ec ∙ q .counts) ∙ q .file .fits in
+    claimed (keysIn keys) (key-blocks keys b (q .keys48)) s h (U .stamped) fit old (U .bytes) ec (q .numbers ∙ number-says keys h old f U) f marks rest names said (U .file) em en es

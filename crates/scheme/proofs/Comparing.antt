@@ -9,13 +9,15 @@ use Rattle.incidence.proofs.Sums.{expanded-ext}
 use Rattle.incidence.proofs.Rowwise.{named-ext, numberNamed-ext, disagreeing-ext, answer-ext}
 use Rattle.sizes.specs.Sizes.{familyOf}
 use Rattle.sizes.proofs.Laws.{lawful}
+use Rattle.stamp.specs.declared.Stamp.{Stamp}
+use Rattle.stamp.specs.Front.{versionOf}
 use Rattle.files.specs.Message.{itemCount, item}
 use Rattle.files.specs.TagFile.{codeOf, Formed}
 use Rattle.sums.specs.Adding.{sumIn, Holds}
 use Rattle.decoding.specs.Decoding.{agreesIn, marksOf}
 use Rattle.tagging.specs.declared.Keys.{Keys}
 use Rattle.tagging.specs.Tagging.{hashes}
-use Rattle.scheme.specs.Calls.{sumFrom, sumTagged, sumExpanded, agrees}
+use Rattle.scheme.specs.Calls.{stampIn, sumFrom, sumTagged, sumExpanded, agrees}
 use Rattle.checks.proofs.Checking.{file-code}
 
 marks-ext : (p q : ℕ → Bool) (n : ℕ) → ((j : ℕ) → p j ≡ q j) → marksOf p n ≡ marksOf q n
@@ -23,8 +25,9 @@ unfolding marksOf
 marks-ext p q zero h = refl
 marks-ext p q (suc n) h = ap₂ (λ (l : List ℕ) (b : Bool). l ++ (indicator b ∷ [])) (marks-ext p q n h) (h (suc n))
 
-module _ (k K : Keys) (s f z1 z2 z3 from tagged back : List ℕ) (c n : ℕ) (ek : k ≡ K) (ec : c ≡ codeOf f) (en : n ≡ itemCount s) (F : Formed f)
-    (Hf : Holds (familyOf c .rows) (rowSum (familyOf c) (hashes k (item s)) (itemCount s)) z1 from)
+module _ (k K : Keys) (s f z1 z2 z3 from tagged back : List ℕ) (st : Stamp) (c n : ℕ) (ek : k ≡ K) (es : st ≡ stampIn (versionOf f) s) (ec : c ≡ codeOf f)
+    (en : n ≡ itemCount s) (F : Formed f)
+    (Hf : Holds (familyOf c .rows) (rowSum (familyOf c) (hashes k st (item s)) (itemCount s)) z1 from)
     (Ht : Holds (familyOf (codeOf f) .tags) (sumTagged k f) z2 tagged)
     (Hb : Holds (familyOf c .rows) (expanded (familyOf c) (sumIn tagged)) z3 back) where
   rows-same : (i : ℕ) → 1 ≤ i → i ≤ familyOf (codeOf f) .rows → agreesIn from back i ≡ agrees K s f i
@@ -33,7 +36,7 @@ module _ (k K : Keys) (s f z1 z2 z3 from tagged back : List ℕ) (c n : ℕ) (ek
       let e = ap (λ (x : ℕ). familyOf x .rows) ec in
       let v : i ≤ familyOf c .rows = omega (arith, e) in
       ap₂ same
-      (Hf .sums i l v ∙ ap₂ (λ (x : ℕ) (y : Keys). rowSum (familyOf x) (hashes y (item s)) (itemCount s) i) ec ek)
+      (Hf .sums i l v ∙ (λ m. rowSum (familyOf (ec m)) (hashes (ek m) (es m) (item s)) (itemCount s) i))
       (Hb .sums i l v ∙ ap (λ (x : ℕ). expanded (familyOf x) (sumIn tagged) i) ec
       ∙ expanded-ext (familyOf (codeOf f)) (lawful (codeOf f) (file-code f F)) (sumIn tagged) (sumTagged k f) (Ht .sums) i l u
       ∙ ap (λ (y : Keys). expanded (familyOf (codeOf f)) (sumTagged y f) i) ek)

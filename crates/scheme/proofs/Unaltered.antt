@@ -3,17 +3,19 @@ use Rattle.fips197.proofs.Kit.{_≡_, refl, sym, ap, _∙_, Bool, true, false, 
 use Rattle.blocks.specs.Block.{if_then_else_, Bytes, Block, _⊕_, slot, listOf}
 use Rattle.blocks.proofs.Xor.{⊕-block, zeros-block, append-bytes, take-bytes, drop-bytes}
 use Rattle.blocks.proofs.Slots.{slot-length, listOf-length, slot-listOf}
-use Rattle.cipher.proofs.Laws.{cmac-length}
 use Rattle.incidence.specs.Sum.{sumOver, rowSum, expanded}
 use Rattle.incidence.proofs.Sums.{Values, expanded-ext, expanded-rowSum}
 use Rattle.sizes.specs.Sizes.{known, familyOf}
 use Rattle.sizes.proofs.Laws.{lawful}
 use Rattle.files.specs.Refusals.{none}
-use Rattle.files.specs.TagFile.{headFor, codeOf, countOf, tagsIn, countFits, refuse6, refuse20, Written}
+use Rattle.stamp.specs.declared.Stamp.{Stamp}
+use Rattle.stamp.specs.Front.{stampFits}
+use Rattle.files.specs.declared.tagfile.Head.{Head}
+use Rattle.files.specs.TagFile.{newestTagFile, headOf, tagsIn, countFits, refuse6, refuse20, Written}
 use Rattle.incidence.proofs.Booleans.{and-left, and-right}
-use Rattle.files.proofs.Accepted.{code-back, count-back, tags-back, written-accepted}
-use Rattle.keyed.specs.Keyed.{itemHash, tagOf, sumOfTag}
-use Rattle.keyed.proofs.KeyedLaws.{itemHash-block, tagOf-block, tagOf-length, sumOfTag-tagOf}
+use Rattle.files.proofs.Accepted.{head-back, tags-back, written-accepted}
+use Rattle.keyed.specs.Keyed.{tagOf, sumOfTag}
+use Rattle.keyed.proofs.KeyedLaws.{itemHash-length, itemHash-block, tagOf-block, tagOf-length, sumOfTag-tagOf}
 use Rattle.tagging.specs.declared.Keys.{Keys}
 use Rattle.tagging.specs.Tagging.{keysIn, hashes, tagSum, fileOf, tagFile}
 use Rattle.scheme.specs.Calls.{sumTagged, sumExpanded}
@@ -43,9 +45,9 @@ sum-block p value (suc n) h = go (p (suc n)) (sum-block p value n (λ j l u. h j
     go false r = r
 
 -- a hash has 16 bytes, whatever the item
-pub hashes-long : (K : Keys) → length (K .item) ≡ 16 → (items : ℕ → List ℕ) → Values (hashes K items)
-unfolding hashes itemHash
-hashes-long K h items j = cmac-length (K .item) h _
+pub hashes-long : (K : Keys) → length (K .item) ≡ 16 → (st : Stamp) (items : ℕ → List ℕ) → Values (hashes K st items)
+unfolding hashes
+hashes-long K h st items j = itemHash-length (K .item) h st j (items j)
 
 -- ---- lists of blocks are bytes
 
@@ -54,44 +56,49 @@ unfolding listOf
 listOf-bytes f zero h = tt
 listOf-bytes f (suc n) h = append-bytes (listOf f n) (f n) (listOf-bytes f n (λ k l. h k (omega arith))) (h n (omega arith))
 
-module _ (K : Keys) (B : KeyBlocks K) (c n : ℕ) (fit : countFits c n ≡ true) (items : ℕ → List ℕ) (bytes : (j : ℕ) → 1 ≤ j → j ≤ n → Bytes (items j)) where
+module _ (K : Keys) (B : KeyBlocks K) (h : Head) (stamped : stampFits newestTagFile (h .stamp) ≡ true) (fit : countFits (h .code) (h .count) ≡ true)
+    (items : ℕ → List ℕ) (bytes : (j : ℕ) → 1 ≤ j → j ≤ h .count → Bytes (items j)) where
+  abbrev c : ℕ
+  c = h .code
+
+  abbrev n : ℕ
+  n = h .count
+
   -- the family is lawful and large enough
-  pub fit-code : known c ≡ true
+  pub fit-code : known (h .code) ≡ true
   unfolding countFits
   fit-code = and-left (known c) _ fit
 
-  pub fit-count : n ≤ familyOf c .items
+  pub fit-count : h .count ≤ familyOf (h .code) .items
   unfolding countFits
   fit-count = leb-true _ _ (and-right (leb 1 n) (leb n (familyOf c .items)) (and-right (known c) _ fit))
 
-  sum-is-block : (k : ℕ) → Block (tagSum K c items n k)
+  sum-is-block : (k : ℕ) → Block (tagSum K (h .stamp) c items n k)
   unfolding tagSum rowSum hashes
-  sum-is-block k = sum-block _ _ n (λ j l u. itemHash-block (K .item) (B .item) j (items j) (bytes j l u))
+  sum-is-block k = sum-block _ _ n (λ j l u. itemHash-block (K .item) (B .item) (h .stamp) j (items j) (bytes j l u))
 
   tags : List ℕ
-  tags = listOf (λ k. tagOf (K .tag) (suc k) (tagSum K c items n (suc k))) (familyOf c .tags)
+  tags = listOf (λ k. tagOf (K .tag) (suc k) (tagSum K (h .stamp) c items n (suc k))) (familyOf c .tags)
 
   tags-long : length tags ≡ 16 * familyOf c .tags
   unfolding tags
   tags-long = listOf-length _ (familyOf c .tags) (λ k l. tagOf-length (K .tag) (B .tag .long) k _)
 
-  pub code-is : codeOf (tagFile K (headFor c n) items) ≡ c
+  -- it says what it was laid out for
+  pub head-is : headOf (tagFile K h items) ≡ h
   unfolding tagFile fileOf tags
-  code-is = code-back (K .seal) (B .seal .long) (headFor c n) tags fit tags-long
+  head-is = head-back (K .seal) (B .seal .long) h tags stamped fit tags-long
 
-  pub count-is : countOf (tagFile K (headFor c n) items) ≡ n
+  pub tags-are : tagsIn (tagFile K h items) ≡ listOf (λ k. tagOf (K .tag) (suc k) (tagSum K (h .stamp) (h .code) items (h .count) (suc k))) (familyOf (h .code) .tags)
   unfolding tagFile fileOf tags
-  count-is = count-back (K .seal) (B .seal .long) (headFor c n) tags fit tags-long
+  tags-are = tags-back (K .seal) (B .seal .long) h tags stamped fit tags-long
 
-  pub tags-are : tagsIn (tagFile K (headFor c n) items) ≡ listOf (λ k. tagOf (K .tag) (suc k) (tagSum K c items n (suc k))) (familyOf c .tags)
-  unfolding tagFile fileOf tags
-  tags-are = tags-back (K .seal) (B .seal .long) (headFor c n) tags fit tags-long
-
-  written : Written (K .seal) (tagFile K (headFor c n) items)
+  written : Written (K .seal) (tagFile K h items)
   unfolding tagFile fileOf tags
   written = record {
-    head = headFor c n;
+    head = h;
     tags = tags;
+    stamped = stamped;
     fits = fit;
     long = tags-long;
     bytes = listOf-bytes _ (familyOf c .tags) (λ k l. tagOf-block (K .tag) (B .tag) (suc k) _ (sum-is-block (suc k)) .bytes);
@@ -99,24 +106,24 @@ module _ (K : Keys) (B : KeyBlocks K) (c n : ℕ) (fit : countFits c n ≡ true)
   }
 
   -- neither 6 nor 20
-  pub accepted : (refuse6 (tagFile K (headFor c n) items) ≡ none) × (refuse20 (K .seal) (tagFile K (headFor c n) items) ≡ none)
-  accepted = written-accepted (K .seal) (tagFile K (headFor c n) items) (B .seal .long) written
+  pub accepted : (refuse6 (tagFile K h items) ≡ none) × (refuse20 (K .seal) (tagFile K h items) ≡ none)
+  accepted = written-accepted (K .seal) (tagFile K h items) (B .seal .long) written
 
   -- the sums of its tags are the items'
-  pub sums-back : (k : ℕ) → 1 ≤ k → k ≤ familyOf c .tags → sumTagged K (tagFile K (headFor c n) items) k ≡ tagSum K c items n k
+  pub sums-back : (k : ℕ) → 1 ≤ k → k ≤ familyOf (h .code) .tags → sumTagged K (tagFile K h items) k ≡ tagSum K (h .stamp) (h .code) items (h .count) k
   unfolding sumTagged tags
   sums-back k l u =
       let z : suc (k - 1) ≡ k = omega arith in
       ap (λ (s : List ℕ). sumOfTag (K .tag) k (slot s (k - 1))) (tags-are ∙ sym (append-nil tags))
       ∙ ap (sumOfTag (K .tag) k) (slot-listOf _ (familyOf c .tags) [] (λ i b. tagOf-length (K .tag) (B .tag .long) i _) (k - 1) (omega arith)
-      ∙ ap (λ (i : ℕ). tagOf (K .tag) i (tagSum K c items n i)) z)
-      ∙ sumOfTag-tagOf (K .tag) (B .tag) k (tagSum K c items n k) (sum-is-block k)
+      ∙ ap (λ (i : ℕ). tagOf (K .tag) i (tagSum K (h .stamp) c items n i)) z)
+      ∙ sumOfTag-tagOf (K .tag) (B .tag) k (tagSum K (h .stamp) c items n k) (sum-is-block k)
 
   -- and so are those of all rows
-  pub rows-back : (i : ℕ) → 1 ≤ i → i ≤ familyOf c .rows → sumExpanded K (tagFile K (headFor c n) items) i ≡ rowSum (familyOf c) (hashes K items) n i
-  unfolding sumExpanded tagSum
+  pub rows-back : (i : ℕ) → 1 ≤ i → i ≤ familyOf (h .code) .rows → sumExpanded K (tagFile K h items) i ≡ rowSum (familyOf (h .code)) (hashes K (h .stamp) items) (h .count) i
+  unfolding sumExpanded tagSum headOf
   rows-back i l u =
       let F = familyOf c in
-      ap (λ (x : ℕ). expanded (familyOf x) (sumTagged K (tagFile K (headFor c n) items)) i) code-is
-      ∙ expanded-ext F (lawful c fit-code) (sumTagged K (tagFile K (headFor c n) items)) (λ k. rowSum F (hashes K items) n (F .rowOfTag k)) sums-back i l u
-      ∙ expanded-rowSum F (lawful c fit-code) (hashes K items) (hashes-long K (B .item .long) items) n fit-count i l u
+      ap (λ (x : Head). expanded (familyOf (x .code)) (sumTagged K (tagFile K h items)) i) head-is
+      ∙ expanded-ext F (lawful c fit-code) (sumTagged K (tagFile K h items)) (λ k. rowSum F (hashes K (h .stamp) items) n (F .rowOfTag k)) sums-back i l u
+      ∙ expanded-rowSum F (lawful c fit-code) (hashes K (h .stamp) items) (hashes-long K (B .item .long) (h .stamp) items) n fit-count i l u

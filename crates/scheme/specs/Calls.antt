@@ -11,13 +11,15 @@ use Rattle.incidence.specs.Report.{named, numberNamed, disagreeing, answer}
 use Rattle.incidence.specs.declared.Answer.{Answer}
 use Rattle.incidence.specs.declared.Answer.the-variants.{Beyond}
 use Rattle.sizes.specs.Sizes.{familyOf}
+use Rattle.stamp.specs.declared.Stamp.{Stamp}
+use Rattle.stamp.specs.Front.{versionOf, stampOf}
 use Rattle.files.specs.Refusals.{passes}
 use Rattle.files.specs.Message.{itemCount, item}
-use Rattle.files.specs.TagFile.{headFor, fileSize, codeOf, headOf, tagsIn}
+use Rattle.files.specs.TagFile.{fileSize, codeOf, headOf, tagsIn}
 use Rattle.keyed.specs.Keyed.{itemHash, tagOf, sumOfTag}
 use Rattle.decoding.specs.Decoding.{marksOf}
 use Rattle.tagging.specs.declared.Keys.{Keys}
-use Rattle.tagging.specs.Tagging.{keysIn, hashes, tagSum, fileOf, tagFile}
+use Rattle.tagging.specs.Tagging.{keysIn, hashes, tagSum, fileOf, tagFile, tagHead}
 use Rattle.checks.specs.Refused.{tagRefusal, verifyRefusal, reportRefusal, replaceRefusal}
 
 -- ---- Tag (keys, size code, shelf): 1, 2, 3, 4, 5, 7. "Writes the sheet."
@@ -25,22 +27,26 @@ use Rattle.checks.specs.Refused.{tagRefusal, verifyRefusal, reportRefusal, repl
 -- what out holds at the end: "Output goes to the front of a lent buffer; the bytes behind stay."
 unfoldable pub tagWrites : List ℕ → ℕ → List ℕ → List ℕ → List ℕ
 tagWrites keys c s out =
-    if passes (tagRefusal keys c s (length out)) then tagFile (keysIn keys) (headFor c (itemCount s)) (item s) ++ drop (fileSize c) out else out
+    if passes (tagRefusal keys c s (length out)) then tagFile (keysIn keys) (tagHead c s) (item s) ++ drop (fileSize (tagHead c s)) out else out
 
--- ---- Verify (keys, shelf, sheet): 1, 3, 5, 6, 20, 21. "Yes when the shelf's tags equal the sheet's, else no."
+-- ---- Verify (keys, shelf, sheet): 1, 3, 5, 6, 20, 21, 25. "Yes when the shelf's tags equal the sheet's, else no."
+
+-- what the items of message s are hashed under in version v: the number is the message's own, and the version is the tag file's
+unfoldable pub stampIn : ℕ → List ℕ → Stamp
+stampIn v s = record { version = v; number = stampOf s .number }
 
 -- the message's tags, one after another
-unfoldable pub tagsFor : Keys → ℕ → List ℕ → List ℕ
-tagsFor keys c s = listOf (λ k. tagOf (keys .tag) (suc k) (tagSum keys c (item s) (itemCount s) (suc k))) (familyOf c .tags)
+unfoldable pub tagsFor : Keys → ℕ → ℕ → List ℕ → List ℕ
+tagsFor keys v c s = listOf (λ k. tagOf (keys .tag) (suc k) (tagSum keys (stampIn v s) c (item s) (itemCount s) (suc k))) (familyOf c .tags)
 
 unfoldable pub verifyYes : List ℕ → List ℕ → List ℕ → Bool
-verifyYes keys s f = if passes (verifyRefusal keys s f) then same (tagsFor (keysIn keys) (codeOf f) s) (tagsIn f) else false
+verifyYes keys s f = if passes (verifyRefusal keys s f) then same (tagsFor (keysIn keys) (versionOf f) (codeOf f) s) (tagsIn f) else false
 
 -- ---- Report: as Verify, then 7
 
 -- row i's sum from the message
-unfoldable pub sumFrom : Keys → ℕ → List ℕ → ℕ → List ℕ
-sumFrom keys c s i = rowSum (familyOf c) (hashes keys (item s)) (itemCount s) i
+unfoldable pub sumFrom : Keys → ℕ → ℕ → List ℕ → ℕ → List ℕ
+sumFrom keys v c s i = rowSum (familyOf c) (hashes keys (stampIn v s) (item s)) (itemCount s) i
 
 -- the sum that tag k of a file was made of: "The sum is had back from a tag by the deciphering."
 unfoldable pub sumTagged : Keys → List ℕ → ℕ → List ℕ
@@ -52,7 +58,7 @@ sumExpanded keys f i = expanded (familyOf (codeOf f)) (sumTagged keys f) i
 
 -- whether row i agrees: its "sum from the shelf equals its sum from the sheet"
 unfoldable pub agrees : Keys → List ℕ → List ℕ → ℕ → Bool
-agrees keys s f i = same (sumFrom keys (codeOf f) s i) (sumExpanded keys f i)
+agrees keys s f i = same (sumFrom keys (versionOf f) (codeOf f) s i) (sumExpanded keys f i)
 
 -- "Writes n bytes, 1 named and 0 cleared"
 unfoldable pub reportWrites : List ℕ → List ℕ → List ℕ → List ℕ → List ℕ
@@ -81,16 +87,16 @@ reportRows keys s f out =
 unfoldable pub replacedSum : Keys → List ℕ → ℕ → List ℕ → List ℕ → ℕ → List ℕ
 replacedSum keys f j old new k =
     if familyOf (codeOf f) .on (familyOf (codeOf f) .rowOfTag k) j
-    then (sumTagged keys f k ⊕ itemHash (keys .item) j old) ⊕ itemHash (keys .item) j new
+    then (sumTagged keys f k ⊕ itemHash (keys .item) (stampOf f) j old) ⊕ itemHash (keys .item) (stampOf f) j new
     else sumTagged keys f k
 
 -- items with the bytes of item j replaced
 unfoldable pub replacedItem : (ℕ → List ℕ) → ℕ → List ℕ → ℕ → List ℕ
 replacedItem items j new i = if eqb i j then new else items i
 
--- "and reseals into a second buffer"
+-- "and reseals into a second buffer"; "Replace keeps the version it is given", and the number
 unfoldable pub replaceWrites : List ℕ → List ℕ → ℕ → List ℕ → List ℕ → List ℕ → List ℕ
 replaceWrites keys f j old new out =
     if passes (replaceRefusal keys f j old new (length out))
-    then fileOf (keysIn keys) (headOf f) (replacedSum (keysIn keys) f j old new) ++ drop (fileSize (codeOf f)) out
+    then fileOf (keysIn keys) (headOf f) (replacedSum (keysIn keys) f j old new) ++ drop (fileSize (headOf f)) out
     else out

@@ -14,16 +14,29 @@ use Rattle.incidence.specs.Detection.{Detects}
 use Rattle.incidence.specs.declared.Answer.{Answer}
 use Rattle.sizes.specs.Sizes.{familyOf}
 use Rattle.files.specs.Message.{itemCount, item}
-use Rattle.files.specs.TagFile.{headFor}
+use Rattle.stamp.specs.declared.Stamp.{Stamp}
+use Rattle.stamp.specs.Front.{stampFits}
+use Rattle.files.specs.declared.tagfile.Head.{Head}
+use Rattle.files.specs.TagFile.{newestTagFile}
 use Rattle.tagging.specs.declared.Keys.{Keys}
 use Rattle.tagging.specs.Tagging.{keysIn, hashes, tagFile}
+use Rattle.scheme.specs.Calls.{stampIn}
+
+-- "The unaltered sheet of a shelf, for given keys and size, is laid out for that shelf and size with the tags that Tag's rule gives, and sealed
+-- under those keys, whichever call wrote it": f is it, for the items `old`, in the version and with the number that h says. "A version 1 sheet
+-- can be the unaltered sheet only of a shelf whose number is 0" (stampFits).
+pub record Unaltered (keys : Keys) (h : Head) (old : ℕ → List ℕ) (f : List ℕ) : Type 0 where
+  pub stamped : stampFits newestTagFile (h .stamp) ≡ true
+  pub bytes : (j : ℕ) → 1 ≤ j → j ≤ h .count → Bytes (old j)
+  pub file : f ≡ tagFile keys h old
 
 -- "A card has changed when that shelf and the shelf reported hold different bytes under its number."
 unfoldable pub changed : (ℕ → List ℕ) → (ℕ → List ℕ) → ℕ → Bool
 changed old new j = not (same (old j) (new j))
 
--- "A row cancels when it holds a changed card and the XOR of its cards' old codes equals that of their new ones."
-pub record RowCancels (F : Family) (keys : Keys) (old new : ℕ → List ℕ) (n i : ℕ) : Type 0 where
+-- "A row cancels when it holds a changed card and the XOR of its cards' old codes equals that of their new ones": the old codes are taken
+-- under the old message's stamp, and the new ones under that of the message reported.
+pub record RowCancels (F : Family) (keys : Keys) (before after : Stamp) (old new : ℕ → List ℕ) (n i : ℕ) : Type 0 where
   pub low : 1 ≤ i
   pub high : i ≤ F .rows
   pub at : ℕ
@@ -31,20 +44,23 @@ pub record RowCancels (F : Family) (keys : Keys) (old new : ℕ → List ℕ) (n
   pub at-high : at ≤ n
   pub changes : changed old new at ≡ true
   pub holds : F .on i at ≡ true
-  pub equal : rowSum F (hashes keys old) n i ≡ rowSum F (hashes keys new) n i
+  pub equal : rowSum F (hashes keys before old) n i ≡ rowSum F (hashes keys after new) n i
 
-abbrev pub NoRowCancels : Family → Keys → (ℕ → List ℕ) → (ℕ → List ℕ) → ℕ → Type 0
-NoRowCancels F keys old new n = (i : ℕ) → RowCancels F keys old new n i → ⊥
+abbrev pub NoRowCancels : Family → Keys → Stamp → Stamp → (ℕ → List ℕ) → (ℕ → List ℕ) → ℕ → Type 0
+NoRowCancels F keys before after old new n = (i : ℕ) → RowCancels F keys before after old new n i → ⊥
 
 -- "A card is named when Report writes 1 for it."
 unfoldable pub marked : List ℕ → ℕ → Bool
 marked marks j = eqb (getD marks (j - 1) 0) 1
 
 -- Demand 3, of a report with these keys, on message s and tag file f, that wrote these marks, returned this number of named items and
--- gave this answer: for every size code and all old items of the same number, where f is the unaltered tag file of the old items under
--- these keys. The number returned is that of the items named.
+-- gave this answer: for every version, number and size code and all old items of the same count, where f is the unaltered tag file of the
+-- old items under these keys. The number returned is that of the items named. Nothing is asked of the two numbers: that they are equal
+-- wherever a report is not refused is a theorem (proofs/Guarantees.antt: same-number).
 abbrev pub Claim : List ℕ → List ℕ → List ℕ → List ℕ → ℕ → Answer → Type 0
 Claim keys s f marks names said =
-    (c : ℕ) (old : ℕ → List ℕ) → ((j : ℕ) → 1 ≤ j → j ≤ itemCount s → Bytes (old j)) → f ≡ tagFile (keysIn keys) (headFor c (itemCount s)) old
-    → Detects (familyOf c .limit) (itemCount s) (NoRowCancels (familyOf c) (keysIn keys) old (item s) (itemCount s)) (changed old (item s)) (marked marks) said
+    (h : Head) (old : ℕ → List ℕ) → Unaltered (keysIn keys) h old f → h .count ≡ itemCount s
+    → Detects (familyOf (h .code) .limit) (itemCount s)
+    (NoRowCancels (familyOf (h .code)) (keysIn keys) (h .stamp) (stampIn (h .stamp .version) s) old (item s) (itemCount s))
+    (changed old (item s)) (marked marks) said
     × (names ≡ countUpTo (marked marks) (itemCount s))

@@ -6,9 +6,8 @@ use decoding::Decoded;
 use files::Refusal;
 use files::message;
 use files::tagfile;
-use files::tagfile::Head;
-use files::tagfile::TAGS_AT;
 use incidence::Answer;
+use stamp::Stamp;
 use tagging::Keys;
 ghost use mathlib.Core.Path.{_≡_};
 ghost use mathlib.Core.List.{_++_};
@@ -17,28 +16,26 @@ ghost use lib.ListN.{length, drop};
 ghost use Rattle.blocks.specs.Block.{same};
 ghost use Rattle.incidence.specs.Report.{named, numberNamed, disagreeing, answer};
 ghost use Rattle.sizes.specs.Sizes.{familyOf};
-ghost use Rattle.files.specs.Message.{itemCount, item};
-ghost use Rattle.files.specs.TagFile.{headFor, fileSize, codeOf, headOf, tagsIn, Formed};
+ghost use Rattle.stamp.specs.Front.{versionOf};
+ghost use Rattle.files.specs.Message.{itemsAt, itemCount, item};
+ghost use Rattle.files.specs.TagFile.{fileSize, codeOf, headOf, tagsIn, Formed};
 ghost use Rattle.sums.specs.Adding.{Holds};
 ghost use Rattle.decoding.specs.Decoding.{marksOf};
-ghost use Rattle.tagging.specs.Tagging.{keysIn, fileOf, tagFile};
+ghost use Rattle.tagging.specs.Tagging.{keysIn, fileOf, tagFile, tagHead};
 ghost use Rattle.checks.specs.Refused.{tagRefusal, verifyRefusal, reportRefusal, replaceRefusal};
 ghost use Rattle.checks.specs.Passed.{Taggable, Comparable, Reportable, Replaceable};
-ghost use Rattle.scheme.specs.Calls.{tagWrites, tagsFor, verifyYes, sumTagged, agrees, reportWrites, reportAnswer, reportNamed, reportRows, replacedSum, replaceWrites};
+ghost use Rattle.scheme.specs.Calls.{tagWrites, stampIn, tagsFor, verifyYes, sumTagged, agrees, reportWrites, reportAnswer, reportNamed, reportRows, replacedSum, replaceWrites};
 ghost use Rattle.scheme.specs.Claim.{Claim};
 
 // Writes the tag file of a message that is not refused to the front of out.
 fn write_tag_file(keys: &[u8], code: u64, s: &[u8], out: &mut [u8])
     requires { ⌜ Taggable (now keys) code (now s) (length (now out)) ⌝ }
-    ensures { λ _. ⌜ now (out .exit) ≡ tagFile (keysIn (now (keys .entry))) (headFor code (itemCount (now (s .entry)))) (item (now (s .entry))) ++ drop (fileSize code) (now (out .entry)) ⌝ }
+    ensures { λ _. ⌜ now (out .exit) ≡ tagFile (keysIn (now (keys .entry))) (tagHead code (now (s .entry))) (item (now (s .entry))) ++ drop (fileSize (tagHead code (now (s .entry)))) (now (out .entry)) ⌝ }
 {
     let k = tagging::keys_in(keys);
-    let head = Head {
-        code,
-        count: message::item_count(s),
-    };
+    let head = tagging::head_for(code, s);
     let mut sums = [0u8; sums::TAGS_MOST];
-    tagging::sum_tags(code, k, s, &mut sums);
+    tagging::sum_tags(head.code, k, head.stamp, s, &mut sums);
     tagging::write_file(head, k, &sums, out);
 }
 
@@ -56,6 +53,18 @@ pub fn tag(keys: &[u8], code: u64, message: &[u8], out: &mut [u8]) -> Refusal
     refusal
 }
 
+// What the items of a message are hashed under in a version.
+fn stamp_in(version: u16, s: &[u8]) -> Stamp
+    requires { ⌜ itemsAt (versionOf (now s)) ≤ length (now s) ⌝ }
+    ensures { λ r. ⌜ r ≡ stampIn version (now (s .entry)) ⌝ }
+{
+    let own = stamp::stamp_of(s);
+    Stamp {
+        version,
+        number: own.number,
+    }
+}
+
 // What Verify says: its refusal, with number 0 where there is none, and yes or no.
 pub struct Verified {
     pub refused: Refusal,
@@ -65,22 +74,23 @@ pub struct Verified {
 // Whether the tags of a message that is not refused equal the file's.
 fn tags_equal(keys: &[u8], s: &[u8], f: &[u8]) -> bool
     requires { ⌜ Comparable (now keys) (now s) (now f) ⌝ }
-    ensures { λ r. ⌜ r ≡ same (tagsFor (keysIn (now (keys .entry))) (codeOf (now (f .entry))) (now (s .entry))) (tagsIn (now (f .entry))) ⌝ }
+    ensures { λ r. ⌜ r ≡ same (tagsFor (keysIn (now (keys .entry))) (versionOf (now (f .entry))) (codeOf (now (f .entry))) (now (s .entry))) (tagsIn (now (f .entry))) ⌝ }
 {
     let k = tagging::keys_in(keys);
     let tag_key = k.tag;
     let head = tagfile::head_of(f);
+    let written = head.stamp;
     let t = sizes::tags(head.code);
     let end = 16 * t;
     let mut sums = [0u8; sums::TAGS_MOST];
-    tagging::sum_tags(head.code, k, s, &mut sums);
+    tagging::sum_tags(head.code, k, stamp_in(written.version, s), s, &mut sums);
     let mut tags = [0u8; sums::TAGS_MOST];
     keyed::write_tags(aes::key_expansion(tag_key), &sums, t, &mut tags);
-    check::same(&tags[0..end], &f[TAGS_AT..TAGS_AT + end])
+    check::same(&tags[0..end], tagfile::tags_in(f))
 }
 
 // Verify: yes when the message's tags equal the file's, else no.
-// Refuses 1, 3, 5, 6, 20, 21, the first that applies, and says no then.
+// Refuses 1, 3, 5, 6, 20, 21, 25, the first that applies, and says no then.
 pub fn verify(keys: &[u8], message: &[u8], file: &[u8]) -> Verified
     ensures refused { λ r. ⌜ r .refused ≡ verifyRefusal (now (keys .entry)) (now (message .entry)) (now (file .entry)) ⌝ }
     ensures yes { λ r. ⌜ r .yes ≡ verifyYes (now (keys .entry)) (now (message .entry)) (now (file .entry)) ⌝ }
@@ -108,13 +118,13 @@ fn read_sums(keys: Keys, f: &[u8], sums: &mut [u8])
     let key = keys.tag;
     let head = tagfile::head_of(f);
     let t = sizes::tags(head.code);
-    keyed::write_sums(aes::key_expansion(key), &f[TAGS_AT..], t, sums);
+    keyed::write_sums(aes::key_expansion(key), tagfile::tags_in(f), t, sums);
 }
 
 // Writes the file with the old item's hash and the new one's added to the sums of the item's tagged rows, sealed, to the front of out.
 fn write_replaced(keys: &[u8], f: &[u8], j: u64, old: &[u8], new: &[u8], out: &mut [u8])
     requires { ⌜ Replaceable (now keys) (now f) j (length (now out)) ⌝ }
-    ensures { λ _. ⌜ now (out .exit) ≡ fileOf (keysIn (now (keys .entry))) (headOf (now (f .entry))) (replacedSum (keysIn (now (keys .entry))) (now (f .entry)) j (now (old .entry)) (now (new .entry))) ++ drop (fileSize (codeOf (now (f .entry)))) (now (out .entry)) ⌝ }
+    ensures { λ _. ⌜ now (out .exit) ≡ fileOf (keysIn (now (keys .entry))) (headOf (now (f .entry))) (replacedSum (keysIn (now (keys .entry))) (now (f .entry)) j (now (old .entry)) (now (new .entry))) ++ drop (fileSize (headOf (now (f .entry)))) (now (out .entry)) ⌝ }
 {
     let k = tagging::keys_in(keys);
     let item_key = k.item;
@@ -122,12 +132,13 @@ fn write_replaced(keys: &[u8], f: &[u8], j: u64, old: &[u8], new: &[u8], out: &m
     let mut sums = [0u8; sums::TAGS_MOST];
     read_sums(k, f, &mut sums);
     let m = cmac::prepare(item_key);
-    tagging::add_item(head.code, m, &mut sums, j as usize, old);
-    tagging::add_item(head.code, m, &mut sums, j as usize, new);
+    tagging::add_item(head.code, m, head.stamp, &mut sums, j as usize, old);
+    tagging::add_item(head.code, m, head.stamp, &mut sums, j as usize, new);
     tagging::write_file(head, k, &sums, out);
 }
 
-// Replace: writes the tag file with item j's old bytes replaced by new ones to the front of out; the bytes behind stay.
+// Replace: writes the tag file with item j's old bytes replaced by new ones, in the file's version, to the front of out; the bytes
+// behind stay.
 // Refuses 1, 6, 20, 8, 9, 7, the first that applies; out is then as it was.
 pub fn replace(keys: &[u8], file: &[u8], j: u64, old: &[u8], new: &[u8], out: &mut [u8]) -> Refusal
     ensures refused { λ r. ⌜ r ≡ replaceRefusal (now (keys .entry)) (now (file .entry)) j (now (old .entry)) (now (new .entry)) (length (now (out .entry))) ⌝ }
@@ -159,9 +170,10 @@ fn decode_files(keys: &[u8], s: &[u8], f: &[u8], marks: &mut [u8]) -> Decoded
 {
     let k = tagging::keys_in(keys);
     let head = tagfile::head_of(f);
+    let written = head.stamp;
     let n = message::item_count(s);
     let mut from = [0u8; sums::ROWS_MOST];
-    tagging::sum_rows(head.code, k, s, &mut from);
+    tagging::sum_rows(head.code, k, stamp_in(written.version, s), s, &mut from);
     let mut tagged = [0u8; sums::TAGS_MOST];
     read_sums(k, f, &mut tagged);
     let mut expanded = [0u8; sums::ROWS_MOST];

@@ -12,7 +12,7 @@ use Rattle.files.specs.Arguments.{refuse1, refuse2, refuse4, refuse7, refuse9}
 use Rattle.files.proofs.Passing.{first-here, unless-true, unless-false, given, kept}
 use Rattle.tagging.specs.Tagging.{keysIn}
 use Rattle.session.specs.declared.Session.{Session}
-use Rattle.session.specs.Session.{closed, isOpen, refuse22, refuse23, refuse24, beginRefusal, beginGives, putRefusal, withItem, putGives, closeRefusal, closeGives, after, Reached, Given}
+use Rattle.session.specs.Session.{closed, isOpen, sessionHead, refuse22, refuse23, refuse24, beginRefusal, beginGives, putRefusal, withItem, putGives, closeRefusal, closeGives, after, Reached, Given}
 use Rattle.session.proofs.Stepping.{none-of, begin-tells, put-tells}
 use Rattle.session.proofs.Running.{taken-all, runs}
 
@@ -22,20 +22,20 @@ abbrev Either : Session → Type 0
 Either s = (isOpen s ≡ true) ⊎ (s ≡ closed)
 
 -- the session that Begin gives where it passes
-abbrev empty : List ℕ → ℕ → ℕ → Session
-empty keys c n = record { code = c; count = n; taken = 0; keys = keysIn keys; sums = zeros 1312 }
+abbrev empty : List ℕ → ℕ → ℕ → ℕ → Session
+empty keys c n number = record { number = number; code = c; count = n; taken = 0; keys = keysIn keys; sums = zeros 1312 }
 
-begins : (keys : List ℕ) (c n : ℕ) → Either (beginGives keys c n)
+begins : (keys : List ℕ) (c n number : ℕ) → Either (beginGives keys c n number)
 unfolding beginGives isOpen countFits
-begins keys c n = go (beginRefusal keys c n) refl (eqb (beginRefusal keys c n .number) 0) refl
+begins keys c n number = go (beginRefusal keys c n) refl (eqb (beginRefusal keys c n .number) 0) refl
   where
-    go : (r : Refusal) → r ≡ beginRefusal keys c n → (t : Bool) → eqb (r .number) 0 ≡ t → Either (beginGives keys c n)
+    go : (r : Refusal) → r ≡ beginRefusal keys c n → (t : Bool) → eqb (r .number) 0 ≡ t → Either (beginGives keys c n number)
     go r q true e =
         let h = eqb-true (r .number) 0 e in
         let b = begin-tells keys c n r q h in
-        subst Either (given r (beginRefusal keys c n) q (empty keys c n) closed h)
+        subst Either (given r (beginRefusal keys c n) q (empty keys c n number) closed h)
         (inl (and-both (and-both (b .code) (and-both (le-leb 1 n (b .low)) (le-leb n _ (b .high)))) (le-leb 0 n (omega arith))))
-    go r q false e = subst Either (kept r (beginRefusal keys c n) q (empty keys c n) closed (eqb-false (r .number) 0 e)) (inr refl)
+    go r q false e = subst Either (kept r (beginRefusal keys c n) q (empty keys c n number) closed (eqb-false (r .number) 0 e)) (inr refl)
 
 -- the closed session takes nothing
 none-more : (s : Session) → s ≡ closed → s .taken < s .count → ⊥
@@ -66,16 +66,16 @@ closes-either s out E = go (closeRefusal s out) refl (eqb (closeRefusal s out .n
 
 -- Every session that a run gives is open, or is the closed session.
 pub opens : (s : Session) → Reached s → (isOpen s ≡ true) ⊎ (s ≡ closed)
-opens s (Reached.begun keys c n) = begins keys c n
+opens s (Reached.begun keys c n number) = begins keys c n number
 opens s (Reached.putOne p item R) = puts p item (opens p R)
 opens s (Reached.closedBy p out R) = closes-either p out (opens p R)
 
 -- ---- every open session's size code and counts are those of a run
 
-reaches : (keys : List ℕ) (c n : ℕ) (items : ℕ → List ℕ) (k : ℕ) → Reached (after keys c n items k)
+reaches : (keys : List ℕ) (c n number : ℕ) (items : ℕ → List ℕ) (k : ℕ) → Reached (after keys c n number items k)
 unfolding after
-reaches keys c n items zero = Reached.begun keys c n
-reaches keys c n items (suc k) = Reached.putOne (after keys c n items k) (items (suc k)) (reaches keys c n items k)
+reaches keys c n number items zero = Reached.begun keys c n number
+reaches keys c n number items (suc k) = Reached.putOne (after keys c n number items k) (items (suc k)) (reaches keys c n number items k)
 
 closed-not-open : isOpen closed ≡ true → ⊥
 unfolding isOpen closed countFits known
@@ -102,12 +102,12 @@ module _ (s : Session) (o : isOpen s ≡ true) where
   -- A run that gives its size code and counts: Begin with keys of zero bytes, and so many puts of empty items.
   pub some-run : Given (s .code) (s .count) (s .taken)
   some-run =
-      let last = after (zeros 48) (s .code) (s .count) (λ j. []) (s .taken) in
-      let R = runs (zeros 48) (s .code) (s .count) (λ j. []) begin-passes (λ j l u. omega arith) (s .taken) few in
-      let C = taken-all (zeros 48) (s .code) (s .count) (λ j. []) (s .taken) R in
+      let last = after (zeros 48) (s .code) (s .count) (s .number) (λ j. []) (s .taken) in
+      let R = runs (zeros 48) (s .code) (s .count) (s .number) (λ j. []) begin-passes (λ j l u. omega arith) (s .taken) few in
+      let C = taken-all (zeros 48) (s .code) (s .count) (s .number) (λ j. []) (s .taken) R in
       record {
         session = last;
-        reached = reaches (zeros 48) (s .code) (s .count) (λ j. []) (s .taken);
+        reached = reaches (zeros 48) (s .code) (s .count) (s .number) (λ j. []) (s .taken);
         not-closed = λ e. closed-not-open (ap isOpen (sym e) ∙ C .is-open);
         code = C .code;
         count = C .count;
@@ -136,5 +136,5 @@ treated-as-closed s never item out = go (isOpen s) refl
     go false e =
         let a = unless-false (isOpen s) 24 0 e in
         let p : putRefusal s item ≡ refusal 24 0 = ap (λ (r : Refusal). first (r ∷ refuse22 s ∷ refuse9 (length item) 0 ∷ [])) a ∙ first-here _ _ (λ z. omega arith) in
-        let q : closeRefusal s out ≡ refusal 24 0 = ap (λ (r : Refusal). first (r ∷ refuse23 s ∷ refuse7 (fileSize (s .code)) (length out) ∷ [])) a ∙ first-here _ _ (λ z. omega arith) in
+        let q : closeRefusal s out ≡ refusal 24 0 = ap (λ (r : Refusal). first (r ∷ refuse23 s ∷ refuse7 (fileSize (sessionHead s)) (length out) ∷ [])) a ∙ first-here _ _ (λ z. omega arith) in
         (p, q, sym (kept (refusal 24 0) (putRefusal s item) (sym p) (withItem s item) s (λ z. omega arith)), sym (kept (refusal 24 0) (closeRefusal s out) (sym q) closed s (λ z. omega arith)))

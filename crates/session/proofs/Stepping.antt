@@ -6,7 +6,7 @@ use Rattle.incidence.proofs.Counting.{inside-low, inside-high}
 use Rattle.sizes.specs.Sizes.{known, familyOf}
 use Rattle.files.specs.declared.Refusal.{Refusal}
 use Rattle.files.specs.Refusals.{none, first}
-use Rattle.files.specs.TagFile.{fileSize, countFits}
+use Rattle.files.specs.TagFile.{stampFor, fileSize, countFits}
 use Rattle.files.specs.Arguments.{refuse1, refuse2, refuse4, refuse7, refuse9}
 use Rattle.incidence.proofs.Booleans.{and-left, and-right}
 use Rattle.files.proofs.Passing.{rest-passes, unless-passes, number-of}
@@ -14,7 +14,7 @@ use Rattle.keyed.specs.Keyed.{itemHash}
 use Rattle.tagging.specs.declared.Keys.{Keys}
 use Rattle.tagging.specs.Tagging.{keysIn}
 use Rattle.session.specs.declared.Session.{Session}
-use Rattle.session.specs.Session.{isOpen, refuse22, refuse23, refuse24, beginRefusal, putRefusal, addedToTags, withItem, closeRefusal}
+use Rattle.session.specs.Session.{isOpen, sessionHead, refuse22, refuse23, refuse24, beginRefusal, putRefusal, addedToTags, withItem, closeRefusal}
 
 -- ---- the first of three
 
@@ -72,25 +72,25 @@ put-tells s item r e h =
 pub record Closes (s : Session) (out : List ℕ) : Type 0 where
   pub code : known (s .code) ≡ true
   pub fits : s .count ≤ familyOf (s .code) .items
-  pub room : fileSize (s .code) ≤ length out
+  pub room : fileSize (sessionHead s) ≤ length out
 
 pub close-tells : (s : Session) (out : List ℕ) (r : Refusal) → r ≡ closeRefusal s out → r .number ≡ 0 → Closes s out
 unfolding closeRefusal refuse7
 close-tells s out r e h =
-    let p = all-pass (refuse24 s) (refuse23 s) (refuse7 (fileSize (s .code)) (length out)) (number-of r _ e h) in
+    let p = all-pass (refuse24 s) (refuse23 s) (refuse7 (fileSize (sessionHead s)) (length out)) (number-of r _ e h) in
     let o = open-tells s (p .0) in
-    record { code = o .0; fits = o .1; room = leb-true _ _ (unless-passes (leb (fileSize (s .code)) (length out)) 7 0 (omega arith) (p .2)) }
+    record { code = o .0; fits = o .1; room = leb-true _ _ (unless-passes (leb (fileSize (sessionHead s)) (length out)) 7 0 (omega arith) (p .2)) }
 
 -- ---- one item more
 
-pub with-item-is : (s : Session) (item after : List ℕ) → after ≡ addedToTags (s .code) (s .taken + 1) (itemHash (s .keys .item) (s .taken + 1) item) (s .sums)
-    → _≡_ {A = Session} (record { code = s .code; count = s .count; taken = s .taken + 1; keys = s .keys; sums = after }) (withItem s item)
+pub with-item-is : (s : Session) (item after : List ℕ) → after ≡ addedToTags (s .code) (s .taken + 1) (itemHash (s .keys .item) (stampFor (s .number)) (s .taken + 1) item) (s .sums)
+    → _≡_ {A = Session} (record { number = s .number; code = s .code; count = s .count; taken = s .taken + 1; keys = s .keys; sums = after }) (withItem s item)
 unfolding withItem
-with-item-is s item after e = λ i. record { code = s .code; count = s .count; taken = s .taken + 1; keys = s .keys; sums = e i }
+with-item-is s item after e = λ i. record { number = s .number; code = s .code; count = s .count; taken = s .taken + 1; keys = s .keys; sums = e i }
 
 -- ---- no item yet
 
-pub begun-is : (keys : List ℕ) (c n : ℕ) (k : Keys) → k ≡ keysIn keys
-    → _≡_ {A = Session} (record { code = c; count = n; taken = 0; keys = k; sums = zeros 1312 })
-    (record { code = c; count = n; taken = 0; keys = keysIn keys; sums = zeros 1312 })
-begun-is keys c n k e = λ i. record { code = c; count = n; taken = 0; keys = e i; sums = zeros 1312 }
+pub begun-is : (keys : List ℕ) (c n number : ℕ) (k : Keys) → k ≡ keysIn keys
+    → _≡_ {A = Session} (record { number = number; code = c; count = n; taken = 0; keys = k; sums = zeros 1312 })
+    (record { number = number; code = c; count = n; taken = 0; keys = keysIn keys; sums = zeros 1312 })
+begun-is keys c n number k e = λ i. record { number = number; code = c; count = n; taken = 0; keys = e i; sums = zeros 1312 }

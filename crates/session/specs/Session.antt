@@ -11,7 +11,8 @@ use Rattle.blocks.specs.Block.{if_then_else_, _⊕_, zeros, slot, listOf}
 use Rattle.sizes.specs.Sizes.{familyOf}
 use Rattle.files.specs.declared.Refusal.{Refusal}
 use Rattle.files.specs.Refusals.{unless, passes, first}
-use Rattle.files.specs.TagFile.{headFor, fileSize, countFits}
+use Rattle.files.specs.declared.tagfile.Head.{Head}
+use Rattle.files.specs.TagFile.{stampFor, headFor, fileSize, countFits}
 use Rattle.files.specs.Arguments.{refuse1, refuse2, refuse4, refuse7, refuse9}
 use Rattle.keyed.specs.Keyed.{itemHash}
 use Rattle.sums.specs.Adding.{sumIn}
@@ -21,12 +22,16 @@ use Rattle.session.specs.declared.Session.{Session}
 -- "the closed session, all its fields zero"
 unfoldable pub closed : Session
 closed =
-    record { code = 0; count = 0; taken = 0; keys = record { item = zeros 16; tag = zeros 16; seal = zeros 16 }; sums = zeros 1312 }
+    record { number = 0; code = 0; count = 0; taken = 0; keys = record { item = zeros 16; tag = zeros 16; seal = zeros 16 }; sums = zeros 1312 }
 
 -- whether a session is open: "A session whose size code or counts no run of these calls can give is treated as closed." That these are
 -- the size codes and counts that a run can give is a theorem (proofs/Reaching.antt: open-exactly; `Given` below).
 unfoldable pub isOpen : Session → Bool
 isOpen s = countFits (s .code) (s .count) && leb (s .taken) (s .count)
+
+-- what the tag file of a session says: sessions write the newest version, with the number begun with
+unfoldable pub sessionHead : Session → Head
+sessionHead s = headFor (stampFor (s .number)) (s .code) (s .count)
 
 -- ---- what is refused from the state
 
@@ -42,15 +47,17 @@ refuse22 s = unless (ltb (s .taken) (s .count)) 22 0
 unfoldable pub refuse23 : Session → Refusal
 refuse23 s = unless (eqb (s .taken) (s .count)) 23 (s .taken)
 
--- ---- Begin (keys, size code, count): 1, 2, 4
+-- ---- Begin (keys, size code, count, number): 1, 2, 4; "a session's begin is handed" the number, which any 4 bytes may be
 
 unfoldable pub beginRefusal : List ℕ → ℕ → ℕ → Refusal
 beginRefusal keys c n = first (refuse1 (length keys) ∷ refuse2 c ∷ refuse4 c n ∷ [])
 
 -- no items taken and all sums zero; "A refused begin [gives] the closed session"
-unfoldable pub beginGives : List ℕ → ℕ → ℕ → Session
-beginGives keys c n =
-    if passes (beginRefusal keys c n) then record { code = c; count = n; taken = 0; keys = keysIn keys; sums = zeros 1312 } else closed
+unfoldable pub beginGives : List ℕ → ℕ → ℕ → ℕ → Session
+beginGives keys c n number =
+    if passes (beginRefusal keys c n)
+    then record { number = number; code = c; count = n; taken = 0; keys = keysIn keys; sums = zeros 1312 }
+    else closed
 
 -- ---- Put next card: 24, 22, 9
 
@@ -66,11 +73,12 @@ addedToTags c j value sums =
 -- the session with one item more: "a put still adds its code"
 unfoldable pub withItem : Session → List ℕ → Session
 withItem s item = record {
+  number = s .number;
   code = s .code;
   count = s .count;
   taken = s .taken + 1;
   keys = s .keys;
-  sums = addedToTags (s .code) (s .taken + 1) (itemHash (s .keys .item) (s .taken + 1) item) (s .sums);
+  sums = addedToTags (s .code) (s .taken + 1) (itemHash (s .keys .item) (stampFor (s .number)) (s .taken + 1) item) (s .sums);
 }
 
 -- "unchanged after a refusal"
@@ -80,7 +88,7 @@ putGives s item = if passes (putRefusal s item) then withItem s item else s
 -- ---- Close: 24, 23, 7
 
 unfoldable pub closeRefusal : Session → List ℕ → Refusal
-closeRefusal s out = first (refuse24 s ∷ refuse23 s ∷ refuse7 (fileSize (s .code)) (length out) ∷ [])
+closeRefusal s out = first (refuse24 s ∷ refuse23 s ∷ refuse7 (fileSize (sessionHead s)) (length out) ∷ [])
 
 -- "a finished close give[s] the closed session"
 unfoldable pub closeGives : Session → List ℕ → Session
@@ -89,18 +97,18 @@ closeGives s out = if passes (closeRefusal s out) then closed else s
 -- "Close writes and seals the tags of the sums carried."
 unfoldable pub closeWrites : Session → List ℕ → List ℕ
 closeWrites s out =
-    if passes (closeRefusal s out) then fileOf (s .keys) (headFor (s .code) (s .count)) (sumIn (s .sums)) ++ drop (fileSize (s .code)) out else out
+    if passes (closeRefusal s out) then fileOf (s .keys) (sessionHead s) (sumIn (s .sums)) ++ drop (fileSize (sessionHead s)) out else out
 
 -- ---- a run
 
 -- the session after Begin and the first k items
-unfoldable pub after : List ℕ → ℕ → ℕ → (ℕ → List ℕ) → ℕ → Session
-after keys c n items zero = beginGives keys c n
-after keys c n items (suc k) = putGives (after keys c n items k) (items (suc k))
+unfoldable pub after : List ℕ → ℕ → ℕ → ℕ → (ℕ → List ℕ) → ℕ → Session
+after keys c n number items zero = beginGives keys c n number
+after keys c n number items (suc k) = putGives (after keys c n number items k) (items (suc k))
 
 -- the sessions that a run of these calls can give: Begin, Put and Close, in any order and whatever they are handed, refused or not
 pub data Reached : Session → Type 0 where
-  begun : (keys : List ℕ) (c n : ℕ) → Reached (beginGives keys c n)
+  begun : (keys : List ℕ) (c n number : ℕ) → Reached (beginGives keys c n number)
   putOne : (s : Session) (item : List ℕ) → Reached s → Reached (putGives s item)
   closedBy : (s : Session) (out : List ℕ) → Reached s → Reached (closeGives s out)
 

@@ -16,10 +16,11 @@ ghost use Rattle.sizes.specs.Sizes.{known};
 ghost use Rattle.files.specs.Refusals.{first};
 ghost use Rattle.files.specs.Arguments.{refuse7};
 ghost use Rattle.files.specs.TagFile.{fileSize};
-ghost use Rattle.session.specs.Session.{closed, isOpen, refuse22, refuse23, refuse24, beginRefusal, beginGives, putRefusal, withItem, putGives, closeRefusal, closeGives, closeWrites};
+ghost use Rattle.session.specs.Session.{closed, isOpen, sessionHead, refuse22, refuse23, refuse24, beginRefusal, beginGives, putRefusal, withItem, putGives, closeRefusal, closeGives, closeWrites};
 
-// A session: size code, how many items it is for and has taken, the three keys, and the sums of the tags.
+// A session: the message's number, size code, how many items it is for and has taken, the three keys, and the sums of the tags.
 pub struct Session {
+    pub number: u32,
     pub code: u64,
     pub count: u64,
     pub taken: u64,
@@ -38,6 +39,7 @@ fn closed() -> Session
     ensures { λ r. ⌜ r ≡ closed ⌝ }
 {
     Session {
+        number: 0,
         code: 0,
         count: 0,
         taken: 0,
@@ -60,14 +62,16 @@ fn begin_refusal(keys: &[u8], code: u64, n: u64) -> Refusal
     first3(wrong_keys, wrong_code, wrong_count)
 }
 
-// Begins a session for n items of a size code. Refuses 1, 2, 4, the first that applies, and gives the closed session then.
-pub fn begin(keys: &[u8], code: u64, n: u64) -> Step
+// Begins a session for n items of a size code, of the message with this number. Refuses 1, 2, 4, the first that applies, and gives the closed
+// session then.
+pub fn begin(keys: &[u8], code: u64, n: u64, number: u32) -> Step
     ensures refused { λ r. ⌜ r .refused ≡ beginRefusal (now (keys .entry)) code n ⌝ }
-    ensures session { λ r. ⌜ r .session ≡ beginGives (now (keys .entry)) code n ⌝ }
+    ensures session { λ r. ⌜ r .session ≡ beginGives (now (keys .entry)) code n number ⌝ }
 {
     let refused = begin_refusal(keys, code, n);
     if refused.number == 0 {
         let session = Session {
+            number,
             code,
             count: n,
             taken: 0,
@@ -130,10 +134,12 @@ impl Session {
         let code = self.code;
         let keys = self.keys;
         let key = keys.item;
+        let stamp = tagfile::stamp_for(self.number);
         let j = self.taken + 1;
         let mut sums = self.sums;
-        tagging::add_item(code, cmac::prepare(key), &mut sums, j as usize, item);
+        tagging::add_item(code, cmac::prepare(key), stamp, &mut sums, j as usize, item);
         Session {
+            number: self.number,
             code,
             count: self.count,
             taken: j,
@@ -160,11 +166,22 @@ impl Session {
         }
     }
 
+    // What the session's tag file says.
+    fn head(self) -> Head
+        ensures { λ r. ⌜ r ≡ sessionHead self ⌝ }
+    {
+        Head {
+            stamp: tagfile::stamp_for(self.number),
+            code: self.code,
+            count: self.count as usize,
+        }
+    }
+
     // Close's refusal: 24, 23 or 7, or none, where so many bytes are lent.
     fn close_refusal(self, room: usize) -> Refusal
-        ensures { λ r. ⌜ r ≡ first (refuse24 self ∷ refuse23 self ∷ refuse7 (fileSize (self .code)) room ∷ []) ⌝ }
+        ensures { λ r. ⌜ r ≡ first (refuse24 self ∷ refuse23 self ∷ refuse7 (fileSize (sessionHead self)) room ∷ []) ⌝ }
     {
-        let size = tagfile::file_size(self.code);
+        let size = tagfile::file_size(self.head());
         let shut = self.check_open();
         let early = self.check_all();
         let short = arguments::check_room(size, room);
@@ -187,11 +204,7 @@ impl Session {
         }
         let keys = self.keys;
         let sums = self.sums;
-        let head = Head {
-            code: self.code,
-            count: self.count as usize,
-        };
-        tagging::write_file(head, keys, &sums, out);
+        tagging::write_file(self.head(), keys, &sums, out);
         let session = closed();
         Step { refused, session }
     }

@@ -1,11 +1,12 @@
 -- A walk over items adds each value to the sums of its rows: after k items, the sums are those of the first k.
 use Rattle.fips197.proofs.Kit.{_≡_, refl, sym, ap, ap₂, _∙_, subst, Bool, List, _∷_, _++_, ℕ, zero, suc, _+_, _-_, _*_, _≤_, _<_, arith, add-one, length, take, drop, take-add, take-append-drop}
 use Rattle.blocks.specs.Block.{if_then_else_, _⊕_, zeros, slot, listOf}
-use Rattle.cipher.specs.Cmac.{ready}
+use Rattle.cipher.specs.Cmac.{macWith, ready}
 use Rattle.cipher.specs.declared.cmac.MacKey.{MacKey}
 use Rattle.incidence.specs.Family.{Family}
 use Rattle.incidence.specs.Sum.{sumOver, rowSum}
 use Rattle.sizes.specs.Sizes.{familyOf}
+use Rattle.stamp.specs.declared.Stamp.{Stamp}
 use Rattle.files.specs.declared.Refusal.{Refusal}
 use Rattle.files.specs.Refusals.{none}
 use Rattle.files.specs.Message.{number16, itemCount, behind, itemStart, itemSize, item, refuse5}
@@ -53,11 +54,11 @@ module _ (F : Family) (n : ℕ) (rowOf : ℕ → ℕ) (value : ℕ → List ℕ)
   summed-as k m before s e H = subst (λ (x : ℕ). Holds n (λ t. rowSum F value x (rowOf t)) before s) e H
 
 -- with the hashes that a key made ready gives, all of them by now
-pub summed-ready : (F : Family) (n : ℕ) (rowOf : ℕ → ℕ) (key : List ℕ) (k : MacKey) (items : ℕ → List ℕ) (i m : ℕ) (before s : List ℕ) → k ≡ ready key → i ≡ m
-    → Holds n (λ t. rowSum F (λ j. itemHashBy k j (items j)) i (rowOf t)) before s → Holds n (λ t. rowSum F (λ j. itemHash key j (items j)) m (rowOf t)) before s
-summed-ready F n rowOf key k items i m before s ek e H =
-    summed-as F n rowOf (λ j. itemHash key j (items j)) i m before s e
-    (subst (λ (v : ℕ → List ℕ). Holds n (λ t. rowSum F v i (rowOf t)) before s) (hashes-ready key k items ek) H)
+pub summed-ready : (F : Family) (n : ℕ) (rowOf : ℕ → ℕ) (key : List ℕ) (k : MacKey) (st : Stamp) (items : ℕ → List ℕ) (i m : ℕ) (before s : List ℕ) → k ≡ ready key → i ≡ m
+    → Holds n (λ t. rowSum F (λ j. itemHashBy (macWith k) st j (items j)) i (rowOf t)) before s → Holds n (λ t. rowSum F (λ j. itemHash key st j (items j)) m (rowOf t)) before s
+summed-ready F n rowOf key k st items i m before s ek e H =
+    summed-as F n rowOf (λ j. itemHash key st j (items j)) i m before s e
+    (subst (λ (v : ℕ → List ℕ). Holds n (λ t. rowSum F v i (rowOf t)) before s) (hashes-ready key k st items ek) H)
 
 -- ---- the bytes of an item as the walk meets them
 
@@ -89,10 +90,12 @@ holds-is n sum before after H fits = sym (take-append-drop (16 * n) after) ∙ a
 pub added-as : (p : ℕ → Bool) (n : ℕ) (v w before after : List ℕ) → v ≡ w → Added p n v before after → Added p n w before after
 added-as p n v w before after e A = subst (λ (x : List ℕ). Added p n x before after) e A
 
-pub added-ready : (c j : ℕ) (key : List ℕ) (k : MacKey) (item before after : List ℕ) → k ≡ ready key
-    → Added (λ t. familyOf c .on (familyOf c .rowOfTag t) j) (familyOf c .tags) (itemHashBy k j item) before after
-    → Added (λ t. familyOf c .on (familyOf c .rowOfTag t) j) (familyOf c .tags) (itemHash key j item) before after
-added-ready c j key k item before after e A = added-as (λ t. familyOf c .on (familyOf c .rowOfTag t) j) (familyOf c .tags) _ _ before after (hash-ready key k j item e) A
+pub added-ready : (c j : ℕ) (key : List ℕ) (k : MacKey) (st′ st : Stamp) (item before after : List ℕ) → k ≡ ready key → st′ ≡ st
+    → Added (λ t. familyOf c .on (familyOf c .rowOfTag t) j) (familyOf c .tags) (itemHashBy (macWith k) st′ j item) before after
+    → Added (λ t. familyOf c .on (familyOf c .rowOfTag t) j) (familyOf c .tags) (itemHash key st j item) before after
+added-ready c j key k st′ st item before after e es A =
+    added-as (λ t. familyOf c .on (familyOf c .rowOfTag t) j) (familyOf c .tags) _ _ before after
+    (ap (λ (x : Stamp). itemHashBy (macWith k) x j item) es ∙ hash-ready key k st j item e) A
 
 pub keys-made : (s a b d : List ℕ) → a ≡ slot s 0 → b ≡ slot s 1 → d ≡ slot s 2 → _≡_ {A = Keys} (record { item = a; tag = b; seal = d }) (keysIn s)
 unfolding keysIn

@@ -1,14 +1,14 @@
 -- Header, tags and MAC written one behind the other are the tag file.
-use Rattle.fips197.proofs.Kit.{_≡_, refl, sym, ap, ap₂, _∙_, List, _++_, append-assoc, ℕ, suc, _+_, _-_, _*_, _≤_, arith, length, take, drop, length-append, length-take, length-drop, take-at, drop-at, drop-drop}
+use Rattle.fips197.proofs.Kit.{_≡_, sym, ap, ap₂, _∙_, List, _++_, append-assoc, ℕ, suc, _+_, _-_, _*_, _≤_, arith, length, take, drop, length-append, length-take, length-drop, take-at, drop-at, drop-drop}
 use Rattle.blocks.specs.Block.{slot, listOf}
-use Rattle.blocks.specs.Number.{bigEndian}
 use Rattle.cipher.specs.Aes.{encipher}
 use Rattle.cipher.specs.Cmac.{cmac}
 use Rattle.blocks.proofs.Slots.{listOf-length, listOf-ext}
 use Rattle.cipher.proofs.Laws.{cmac-length}
 use Rattle.sizes.specs.Sizes.{familyOf}
 use Rattle.files.specs.declared.tagfile.Head.{Head}
-use Rattle.files.specs.TagFile.{tagPrefix, header, body, sealed, fileSize}
+use Rattle.files.specs.TagFile.{header, tagsAt, body, sealed, fileSize}
+use Rattle.files.proofs.TagFiles.{header-length}
 use Rattle.keyed.specs.Keyed.{tagOf, tagsBy}
 use Rattle.keyed.proofs.KeyedLaws.{tagOf-length}
 use Rattle.sums.specs.Adding.{sumIn}
@@ -19,35 +19,37 @@ pub tags-length : (key s : List ℕ) (t : ℕ) → length key ≡ 16 → length 
 unfolding tagsBy tagOf
 tags-length key s t h = listOf-length (λ k. tagOf key (suc k) (slot s k)) t (λ k l. tagOf-length key h k (slot s k))
 
-pub file-size : (c t : ℕ) → t ≡ familyOf c .tags → fileSize c ≡ 8 + 16 * t + 16
+pub file-size : (h : Head) (at t : ℕ) → at ≡ tagsAt (h .stamp .version) → t ≡ familyOf (h .code) .tags → fileSize h ≡ at + 16 * t + 16
 unfolding fileSize
-file-size c t e = omega arith
-
-header-length : (h : Head) → length (header h) ≡ 8
-unfolding header tagPrefix bigEndian
-header-length h = refl
+file-size h at t ea et = omega arith
 
 -- what is written in its place leaves the length
-pub headed-length : (h : Head) (o o1 : List ℕ) → 8 ≤ length o → o1 ≡ header h ++ drop 8 o → length o1 ≡ length o
+pub headed-length : (h : Head) (o o1 : List ℕ) → tagsAt (h .stamp .version) ≤ length o → o1 ≡ header h ++ drop (tagsAt (h .stamp .version)) o → length o1 ≡ length o
 headed-length h o o1 l e = ap length e ∙ simp (length-append, length-drop) (omega (arith, header-length h))
 
 pub back-length : (xs ys new : List ℕ) (a n : ℕ) → a + n ≤ length xs → length new ≡ n → ys ≡ take a xs ++ (new ++ drop (a + n) xs) → length ys ≡ length xs
 back-length xs ys new a n h l e = ap length e ∙ simp (length-append, length-take, length-drop) (omega arith)
 
-module _ (keys : Keys) (h : Head) (t : ℕ) (sums o o1 o2 o3 : List ℕ) (hk : length (keys .tag) ≡ 16) (et : t ≡ familyOf (h .code) .tags) (fits : fileSize (h .code) ≤ length o)
-    (e1 : o1 ≡ header h ++ drop 8 o)
-    (e2 : o2 ≡ take 8 o1 ++ (tagsBy (encipher (keys .tag)) sums t ++ drop (8 + 16 * t) o1))
-    (e3 : o3 ≡ take (8 + 16 * t) o2 ++ (cmac (keys .seal) (take (8 + 16 * t) o2) ++ drop (8 + 16 * t + 16) o2)) where
-  two : o2 ≡ (header h ++ tagsBy (encipher (keys .tag)) sums t) ++ drop (8 + 16 * t) o
+module _ (keys : Keys) (h : Head) (at t : ℕ) (sums o o1 o2 o3 : List ℕ) (hk : length (keys .tag) ≡ 16) (ea : at ≡ tagsAt (h .stamp .version)) (et : t ≡ familyOf (h .code) .tags)
+    (e1 : o1 ≡ header h ++ drop (tagsAt (h .stamp .version)) o)
+    (e2 : o2 ≡ take at o1 ++ (tagsBy (encipher (keys .tag)) sums t ++ drop (at + 16 * t) o1))
+    (e3 : o3 ≡ take (at + 16 * t) o2 ++ (cmac (keys .seal) (take (at + 16 * t) o2) ++ drop (at + 16 * t + 16) o2)) where
+  head-at : o1 ≡ header h ++ drop at o
+  head-at = e1 ∙ ap (λ (k : ℕ). header h ++ drop k o) (sym ea)
+
+  long : length (header h) ≡ at
+  long = header-length h ∙ sym ea
+
+  two : o2 ≡ (header h ++ tagsBy (encipher (keys .tag)) sums t) ++ drop (at + 16 * t) o
   two =
       e2
       ∙ ap₂ (λ (a b : List ℕ). a ++ (tagsBy (encipher (keys .tag)) sums t ++ b))
-      (ap (take 8) e1 ∙ take-at (header h) (drop 8 o) 8 (header-length h))
-      (sym (drop-drop (16 * t) 8 o1) ∙ ap (drop (16 * t)) (ap (drop 8) e1 ∙ drop-at (header h) (drop 8 o) 8 (header-length h)) ∙ drop-drop (16 * t) 8 o)
-      ∙ sym (append-assoc (header h) (tagsBy (encipher (keys .tag)) sums t) (drop (8 + 16 * t) o))
+      (ap (take at) head-at ∙ take-at (header h) (drop at o) at long)
+      (sym (drop-drop (16 * t) at o1) ∙ ap (drop (16 * t)) (ap (drop at) head-at ∙ drop-at (header h) (drop at o) at long) ∙ drop-drop (16 * t) at o)
+      ∙ sym (append-assoc (header h) (tagsBy (encipher (keys .tag)) sums t) (drop (at + 16 * t) o))
 
-  front : length (header h ++ tagsBy (encipher (keys .tag)) sums t) ≡ 8 + 16 * t
-  front = length-append (header h) (tagsBy (encipher (keys .tag)) sums t) ∙ ap₂ _+_ (header-length h) (tags-length (keys .tag) sums t hk)
+  whole : length (header h ++ tagsBy (encipher (keys .tag)) sums t) ≡ at + 16 * t
+  whole = length-append (header h) (tagsBy (encipher (keys .tag)) sums t) ∙ ap₂ _+_ long (tags-length (keys .tag) sums t hk)
 
   tags-are : tagsBy (encipher (keys .tag)) sums t ≡ listOf (λ k. tagOf (keys .tag) (suc k) (sumIn sums (suc k))) (familyOf (h .code) .tags)
   unfolding tagsBy tagOf sumIn
@@ -55,19 +57,19 @@ module _ (keys : Keys) (h : Head) (t : ℕ) (sums o o1 o2 o3 : List ℕ) (hk : l
       ap (listOf (λ k. tagOf (keys .tag) (suc k) (slot sums k))) et
       ∙ listOf-ext _ _ (familyOf (h .code) .tags) (λ k l. let z : k ≡ suc k - 1 = omega arith in ap (λ (m : ℕ). tagOf (keys .tag) (suc k) (slot sums m)) z)
 
-  pub file-written : o3 ≡ fileOf keys h (sumIn sums) ++ drop (fileSize (h .code)) o
+  pub file-written : o3 ≡ fileOf keys h (sumIn sums) ++ drop (fileSize h) o
   unfolding fileOf sealed body
   file-written =
       let b = header h ++ tagsBy (encipher (keys .tag)) sums t in
-      let z = file-size (h .code) t et in
-      let f = ap (take (8 + 16 * t)) two ∙ take-at b (drop (8 + 16 * t) o) (8 + 16 * t) front in
+      let z = file-size h at t ea et in
+      let f = ap (take (at + 16 * t)) two ∙ take-at b (drop (at + 16 * t) o) (at + 16 * t) whole in
       e3
       ∙ ap₂ (λ (p q : List ℕ). p ++ (cmac (keys .seal) p ++ q)) f
-      (sym (drop-drop 16 (8 + 16 * t) o2)
-      ∙ ap (drop 16) (ap (drop (8 + 16 * t)) two ∙ drop-at b (drop (8 + 16 * t) o) (8 + 16 * t) front)
-      ∙ drop-drop 16 (8 + 16 * t) o ∙ ap (λ (k : ℕ). drop k o) (sym z))
-      ∙ sym (append-assoc b (cmac (keys .seal) b) (drop (fileSize (h .code)) o))
-      ∙ ap (λ (s : List ℕ). ((header h ++ s) ++ cmac (keys .seal) (header h ++ s)) ++ drop (fileSize (h .code)) o) tags-are
+      (sym (drop-drop 16 (at + 16 * t) o2)
+      ∙ ap (drop 16) (ap (drop (at + 16 * t)) two ∙ drop-at b (drop (at + 16 * t) o) (at + 16 * t) whole)
+      ∙ drop-drop 16 (at + 16 * t) o ∙ ap (λ (k : ℕ). drop k o) (sym z))
+      ∙ sym (append-assoc b (cmac (keys .seal) b) (drop (fileSize h) o))
+      ∙ ap (λ (s : List ℕ). ((header h ++ s) ++ cmac (keys .seal) (header h ++ s)) ++ drop (fileSize h) o) tags-are
 
 -- ---- files of equal sums
 
@@ -77,7 +79,7 @@ file-same keys h a b e =
     ap (λ (t : List ℕ). sealed (keys .seal) (body h t))
     (listOf-ext _ _ (familyOf (h .code) .tags) (λ k l. ap (tagOf (keys .tag) (suc k)) (e (suc k) (omega arith) (omega arith))))
 
-pub file-length : (keys : Keys) (h : Head) (sum : ℕ → List ℕ) → length (keys .tag) ≡ 16 → length (keys .seal) ≡ 16 → length (fileOf keys h sum) ≡ fileSize (h .code)
+pub file-length : (keys : Keys) (h : Head) (sum : ℕ → List ℕ) → length (keys .tag) ≡ 16 → length (keys .seal) ≡ 16 → length (fileOf keys h sum) ≡ fileSize h
 unfolding fileOf sealed body fileSize
 file-length keys h sum ht hs =
     let tags = listOf (λ k. tagOf (keys .tag) (suc k) (sum (suc k))) (familyOf (h .code) .tags) in

@@ -11,4 +11,4 @@ tag-refusal-spec =
     tie.close
     (tie.spec (search needs) (search needs) (search needs) (search needs)
     (λ c. rw run3 (stop _ _ _ (search listed depth 12) (c .if1 .taken))) (λ c κs. search passes3) (λ c κs. search passes3)
-    (search needs) (search needs) (λ c. rw run3 (search listed depth 12)))
+    (λ c κs. search passes3) (search needs) (λ c. rw run3 (search listed depth 12)))

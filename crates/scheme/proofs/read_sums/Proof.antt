@@ -1,11 +1,11 @@
 -- The tags deciphered one after another (Filing).
-use Rattle.fips197.proofs.Kit.{_≡_, refl, _∙_, ap, arith, length, length-take, length-drop, needs}
+use Rattle.fips197.proofs.Kit.{_≡_, sym, _∙_, ap, ℕ, _*_, arith, length, needs}
 use Rattle.sizes.specs.Sizes.{familyOf}
 use Rattle.files.specs.declared.tagfile.Head.{Head}
-use Rattle.files.specs.TagFile.{fileSize, codeOf, headOf}
+use Rattle.files.specs.TagFile.{codeOf, headOf}
 use Rattle.keyed.proofs.KeyedLaws.{sums-expanded}
 use Rattle.scheme.specs.Calls.{sumTagged}
-use Rattle.scheme.proofs.Filing.{sums-read}
+use Rattle.scheme.proofs.Filing.{tags-long, sums-read}
 use Rattle.scheme.proofs.read_sums.Statement.{statement}
 use Rattle.scheme.proofs.read_sums.Tie as tie
 
@@ -17,25 +17,31 @@ tags-are c = c .tags .ensures ∙ ap (λ (h : Head). familyOf (h .code) .tags) (
 key-long : (c : tie.Start) → length (c .args .keys .tag) ≡ 16
 key-long c = search needs
 
-write-sums-requires : tie.Need-write-sums-requires
-unfolding fileSize
-write-sums-requires c κs =
-    let t = c .before .before .before in
+-- the tags read are the file's
+tags-read : (c : tie.After-tags-in) → length (c .tags-in .result .now) ≡ 16 * c .before .before .tags .result
+tags-read c =
+    let t = c .before .before in
     let d = t .before .before .before .before .before in
-    let f = d .pre .0 in
-    (simp (length-take, length-drop) (omega (arith, tags-are t, f .long, f .size)), omega (arith, tags-are t, d .pre .1))
+    ap length (c .tags-in .ensures) ∙ tags-long (d .args .f .now) (d .pre .0) ∙ ap (λ (n : ℕ). 16 * n) (sym (tags-are t))
+
+write-sums-requires : tie.Need-write-sums-requires
+write-sums-requires c κs =
+    let g = c .before in
+    let t = g .before .before in
+    let d = t .before .before .before .before .before in
+    (omega (arith, tags-read g), omega (arith, tags-are t, d .pre .1))
 
 returns : tie.Need-returns
 unfolding sumTagged
 returns c =
-    let e = c .before .before .before .before .before in
-    let t = e .before in
+    let g = c .before .before .before .before in
+    let t = g .before .before in
     let d = t .before .before .before .before .before in
-    sums-read (d .args .keys .tag) (d .args .f .now) (d .args .sums .now) _ _ _ (d .pre .0) (key-long d) (tags-are t) refl (omega (arith, tags-are t, d .pre .1))
-    (sums-expanded (d .args .keys .tag) _ _ _ _ _ (e .key-expansion .ensures) (c .before .before .write-sums .ensures))
+    sums-read (d .args .keys .tag) (d .args .f .now) (g .tags-in .result .now) (d .args .sums .now) _ _ (key-long d) (g .tags-in .ensures) (tags-are t) (omega (arith, tags-are t, d .pre .1))
+    (sums-expanded (d .args .keys .tag) _ _ _ _ _ (g .before .key-expansion .ensures) (c .before .before .write-sums .ensures))
 
 pub read-sums-spec : {M : Type 1} → statement M
 read-sums-spec =
     tie.close
-    (tie.spec (λ c κs. search needs) (λ c κs. search needs) (λ c κs. search needs) (λ c. search needs) (λ c. search needs)
-    (λ c. search needs) write-sums-requires (λ c. search needs) returns)
+    (tie.spec (λ c κs. search needs) (λ c κs. search needs) (λ c κs. search needs)
+    (λ c κs. search needs) write-sums-requires (λ c. search needs) returns)

@@ -1,14 +1,16 @@
 -- The tags of the sums, compared with those of the file (Filing).
-use Rattle.fips197.proofs.Kit.{_≡_, refl, ap, ap₂, _∙_, ℕ, _+_, _*_, _≤_, arith, length, needs}
+use Rattle.fips197.proofs.Kit.{_≡_, refl, ap, ap₂, _∙_, _*_, _≤_, arith, length, needs}
 use Rattle.blocks.specs.Block.{same, zeros}
 use Rattle.sizes.specs.Sizes.{known, familyOf}
 use Rattle.sizes.proofs.Laws.{tags-few}
+use Rattle.stamp.specs.Front.{versionOf, stampOf}
 use Rattle.files.specs.declared.tagfile.Head.{Head}
-use Rattle.files.specs.TagFile.{fileSize, codeOf, headOf}
+use Rattle.files.specs.TagFile.{codeOf, headOf}
 use Rattle.checks.proofs.Checking.{file-code}
 use Rattle.keyed.proofs.KeyedLaws.{tags-expanded}
 use Rattle.tagging.proofs.Summing.{zero-sums}
-use Rattle.scheme.proofs.Filing.{same-is, tags-long, tags-written, tags-there, tag-key-long}
+use Rattle.scheme.specs.Calls.{stampIn}
+use Rattle.scheme.proofs.Filing.{same-is, written-long, tags-written, tag-key-long}
 use Rattle.scheme.proofs.tags_equal.Statement.{statement}
 use Rattle.scheme.proofs.tags_equal.Tie as tie
 
@@ -18,15 +20,25 @@ unfolding headOf
 code-is c = ap (λ (h : Head). h .code) (c .head-of .ensures .0)
 
 few : (c : tie.After-tags) → 16 * c .tags .result ≤ 1312
-few c = omega (arith, c .tags .ensures, tags-few (c .before .head-of .result .code))
+few c = omega (arith, c .tags .ensures, tags-few (c .before .before .head-of .result .code))
+
+-- and so is the version that the items are hashed in
+stamp-is : (c : tie.After-stamp-in)
+    → c .stamp-in .result ≡ stampIn (versionOf (c .before .before .before .before .before .before .before .before .before .args .f .now)) (c .before .before .before .before .before .before .before .before .before .args .s .now)
+unfolding headOf stampOf
+stamp-is c =
+    let h = c .before .before .before in
+    let d = h .before .before .before .before .before .before in
+    c .stamp-in .ensures ∙ ap (λ (x : Head). stampIn (x .stamp .version) (d .args .s .now)) (h .head-of .ensures .0)
 
 sum-tags-requires : tie.Need-sum-tags-requires
 sum-tags-requires c κs =
-    let t = c .before in
-    let p = t .before .before .before .before .before .before .before .pre in
-    let h : 16 * familyOf (t .before .head-of .result .code) .tags ≤ 1312 = omega (arith, few t, t .tags .ensures) in (
-      ap known (code-is (t .before)) ∙ file-code _ (p .file),
-      ((p .message .long, p .message .short, p .message .whole), (h, λ k l u. zero-sums 1312 k l (omega arith))),
+    let t = c .before .before in
+    let h = t .before .before in
+    let p = h .before .before .before .before .before .before .pre in
+    let w : 16 * familyOf (h .head-of .result .code) .tags ≤ 1312 = omega (arith, few t, t .tags .ensures) in (
+      ap known (code-is h) ∙ file-code _ (p .file),
+      ((p .message .long, p .message .short, p .message .whole), (w, λ k l u. zero-sums 1312 k l (omega arith))),
     )
 
 -- the tags written
@@ -35,10 +47,10 @@ module _ (c : tie.After-write-tags) where
   summed = c .before .before .before .before .before
 
   abbrev counted : tie.After-tags
-  counted = summed .before .before
+  counted = summed .before .before .before
 
   abbrev keyed : tie.After-keys-in
-  keyed = counted .before .before .before
+  keyed = counted .before .before .before .before
 
   key-long : length (keyed .keys-in .result .tag) ≡ 16
   key-long = tag-key-long (keyed .keys-in .result) _ (keyed .keys-in .ensures) (keyed .before .before .before .before .pre .keys48)
@@ -46,21 +58,19 @@ module _ (c : tie.After-write-tags) where
 write-tags-requires : tie.Need-write-tags-requires
 write-tags-requires c κs =
     let s = c .before .before .before .before in
-    let t = s .before .before in
+    let t = s .before .before .before in
     (omega (arith, few t, s .sum-tags .ensures .size), few t)
 
 part-same-end : tie.Need-part-same-end
 part-same-end c =
     let w = c .before .before in
     let e = tags-expanded (keyed w .keys-in .result .tag) _ _ _ _ _ (w .before .before .before .key-expansion .ensures) (w .write-tags .ensures) in
-    omega (arith, few (counted w), tags-long (keyed w .keys-in .result .tag) _ (zeros 1312) _ _ (key-long w) (few (counted w)) e)
+    omega (arith, few (counted w), written-long (keyed w .keys-in .result .tag) _ (zeros 1312) _ _ (key-long w) (few (counted w)) e)
 
--- and those of the file
-fits : (c : tie.After-tags) → 8 + 16 * c .tags .result + 16 ≤ length (c .before .before .before .before .before .before .before .args .f .now)
-unfolding fileSize
-fits c =
-    let p = c .before .before .before .before .before .before .before .pre in
-    omega (arith, c .tags .ensures, ap (λ (x : ℕ). familyOf x .tags) (code-is (c .before)), p .file .size)
+tags-in-requires : tie.Need-tags-in-requires
+tags-in-requires c κs =
+    let d = keyed (c .before .before .before) .before .before .before .before in
+    d .pre .file .long
 
 returns : tie.Need-returns
 returns c =
@@ -71,17 +81,12 @@ returns c =
     let e = tags-expanded (k .keys-in .result .tag) _ _ _ _ _ (w .before .before .before .key-expansion .ensures) (w .write-tags .ensures) in
     same-is _ _ _ (c .same .ensures .0) (c .same .ensures .1)
     ∙ ap₂ same
-    (tags-written (k .keys-in .result) _ (d .args .s .now) (d .args .f .now) _ _ _ _ _ _ _ (key-long w) (k .keys-in .ensures) (code-is (t .before)) (t .tags .ensures) refl (d .pre .file) (summed w .sum-tags .ensures) e)
-    (tags-there (k .keys-in .result) _ (d .args .s .now) (d .args .f .now) _ _ _ _ _ _ _ (key-long w) (k .keys-in .ensures) (code-is (t .before)) (t .tags .ensures) refl (d .pre .file) (summed w .sum-tags .ensures) e)
+    (tags-written (k .keys-in .result) _ (d .args .s .now) (d .args .f .now) _ _ _ _ _ _ _ _ (key-long w) (k .keys-in .ensures) (stamp-is (summed w .before .before)) (code-is (t .before .before)) (t .tags .ensures) refl (summed w .sum-tags .ensures) e)
+    (c .before .tags-in .ensures)
 
 pub tags-equal-spec : {M : Type 1} → statement M
 tags-equal-spec =
     tie.close
-    (tie.spec (λ c κs. search needs) (λ c κs. search needs) (λ c κs. search needs) (λ c. omega (arith, few c)) (λ c. search needs)
-    sum-tags-requires (λ c κs. search needs) (λ c. search needs) (λ c. search needs) write-tags-requires (λ c. search needs)
-    (λ c. search needs) part-same-end
-    (λ c. omega (arith, few (c .before .before .before .before .before .before .before .before .before .before)))
-    (λ c. omega (arith, few (c .before .before .before .before .before .before .before .before .before .before)))
-    (λ c. search needs)
-    (λ c. omega (arith, fits (c .before .before .before .before .before .before .before .before .before .before)))
-    (λ c κs. search needs) returns)
+    (tie.spec (λ c κs. search needs) (λ c κs. search needs) (λ c κs. search needs) (λ c. omega (arith, few c)) (λ c κs. search needs)
+    (λ c. search needs) sum-tags-requires (λ c κs. search needs) (λ c. search needs) (λ c. search needs) write-tags-requires
+    (λ c. search needs) (λ c. search needs) part-same-end tags-in-requires (λ c κs. search needs) returns)

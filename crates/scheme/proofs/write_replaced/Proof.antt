@@ -1,5 +1,5 @@
 -- The sums of the tags, both hashes added, then the file of those sums (Filing).
-use Rattle.fips197.proofs.Kit.{_≡_, ap, _∙_, true, ℕ, _*_, _≤_, arith, needs}
+use Rattle.fips197.proofs.Kit.{_≡_, refl, ap, _∙_, true, ℕ, _*_, _≤_, arith, needs}
 use Rattle.sizes.specs.Sizes.{known, familyOf}
 use Rattle.sizes.proofs.Laws.{tags-few}
 use Rattle.files.specs.declared.tagfile.Head.{Head}
@@ -56,7 +56,7 @@ write-file-requires c κs =
       code-known h,
       (
         omega (arith, count-is h, file-count _ (p .file), ap (λ (x : ℕ). familyOf x .items) (code-is h)),
-        (omega (arith, few h, r .read-sums .ensures .size, a .add-item .ensures .size, b .add-item2 .ensures .size), omega (arith, p .fits, ap fileSize (code-is h))),
+        (omega (arith, few h, r .read-sums .ensures .size, a .add-item .ensures .size, b .add-item2 .ensures .size), omega (arith, p .fits, ap fileSize (h .head-of .ensures .0))),
       ),
     )
 
@@ -69,10 +69,10 @@ returns c =
     let h = r .before .before in
     let k = h .before .before in
     let d = start h in
-    replaced-made (k .keys-in .result) _ (d .args .f .now) (h .head-of .result .code) (h .head-of .result .count) (d .args .j) (d .args .old .now) (d .args .new .now) _ _ _ _ (d .args .out .now) _
-    (k .keys-in .ensures) (code-is h) (count-is h) (r .read-sums .ensures)
-    (added-ready (h .head-of .result .code) (d .args .j) (k .keys-in .result .item) _ (d .args .old .now) _ _ (m .prepare .ensures) (a .add-item .ensures))
-    (added-ready (h .head-of .result .code) (d .args .j) (k .keys-in .result .item) _ (d .args .new .now) _ _ (m .prepare .ensures) (b .add-item2 .ensures))
+    replaced-made (k .keys-in .result) _ (d .args .f .now) (h .head-of .result) (d .args .j) (d .args .old .now) (d .args .new .now) _ _ _ _ (d .args .out .now) _
+    (k .keys-in .ensures) (h .head-of .ensures .0) (r .read-sums .ensures)
+    (added-ready (h .head-of .result .code) (d .args .j) (k .keys-in .result .item) _ _ (h .head-of .result .stamp) (d .args .old .now) _ _ (m .prepare .ensures) refl (a .add-item .ensures))
+    (added-ready (h .head-of .result .code) (d .args .j) (k .keys-in .result .item) _ _ (h .head-of .result .stamp) (d .args .new .now) _ _ (m .prepare .ensures) refl (b .add-item2 .ensures))
     (c .before .before .write-file .ensures)
 
 pub write-replaced-spec : {M : Type 1} → statement M

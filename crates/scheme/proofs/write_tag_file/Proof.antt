@@ -1,34 +1,61 @@
 -- The sums of the tags, then the file of those sums (Filing).
-use Rattle.fips197.proofs.Kit.{_*_, _≤_, arith, needs}
-use Rattle.sizes.specs.Sizes.{familyOf}
+use Rattle.fips197.proofs.Kit.{_≡_, ap, _∙_, true, ℕ, _*_, _≤_, arith, needs}
+use Rattle.sizes.specs.Sizes.{known, familyOf}
 use Rattle.sizes.proofs.Laws.{tags-few}
-use Rattle.files.specs.Message.{item}
+use Rattle.files.specs.declared.tagfile.Head.{Head}
+use Rattle.files.specs.Message.{itemCount, item}
+use Rattle.files.specs.TagFile.{fileSize}
+use Rattle.tagging.specs.Tagging.{tagHead}
 use Rattle.tagging.proofs.Summing.{zero-sums}
 use Rattle.scheme.proofs.Filing.{tag-file-made}
 use Rattle.scheme.proofs.write_tag_file.Statement.{statement}
 use Rattle.scheme.proofs.write_tag_file.Tie as tie
 
+-- the head made is Tag's
+module _ (c : tie.After-head-for) where
+  abbrev start : tie.Start
+  start = c .before .before .before .before .before
+
+  code-is : c .head-for .result .code ≡ start .args .code
+  unfolding tagHead
+  code-is = ap (λ (h : Head). h .code) (c .head-for .ensures)
+
+  count-is : c .head-for .result .count ≡ itemCount (start .args .s .now)
+  unfolding tagHead
+  count-is = ap (λ (h : Head). h .count) (c .head-for .ensures)
+
+  code-known : known (c .head-for .result .code) ≡ true
+  code-known = ap known code-is ∙ start .pre .code
+
+  few : 16 * familyOf (c .head-for .result .code) .tags ≤ 1312
+  few = omega (arith, tags-few (c .head-for .result .code))
+
 sum-tags-requires : tie.Need-sum-tags-requires
 sum-tags-requires c κs =
-    let d = c .before .before .before .before .before .before in
-    let h : 16 * familyOf (d .args .code) .tags ≤ 1312 = omega (arith, tags-few (d .args .code)) in
-    (d .pre .code, ((d .pre .message .long, d .pre .message .short, d .pre .message .whole), (h, λ k l u. zero-sums 1312 k l (omega arith))))
+    let h = c .before in
+    let m = start h .pre .message in
+    (code-known h, ((m .long, m .short, m .whole), (few h, λ k l u. zero-sums 1312 k l (omega (arith, few h)))))
 
 write-file-requires : tie.Need-write-file-requires
 write-file-requires c κs =
     let s = c .before .before .before in
-    let d = s .before .before .before .before .before .before .before in (
-      d .pre .code,
-      (omega (arith, d .pre .high, s .before .before .item-count .ensures .0), (omega (arith, tags-few (d .args .code), s .sum-tags .ensures .size), d .pre .fits)),
+    let h = s .before .before in
+    let p = start h .pre in (
+      code-known h,
+      (
+        omega (arith, count-is h, p .high, ap (λ (x : ℕ). familyOf x .items) (code-is h)),
+        (omega (arith, few h, s .sum-tags .ensures .size), omega (arith, p .fits, ap fileSize (h .head-for .ensures))),
+      ),
     )
 
 returns : tie.Need-returns
+unfolding tagHead
 returns c =
     let w = c .before .before in
     let s = w .before .before .before .before in
-    let k = s .before .before .before in
-    let d = k .before .before .before .before in
-    tag-file-made _ _ (d .args .code) _ _ (item (d .args .s .now)) _ _ _ _ (k .keys-in .ensures) (s .before .before .item-count .ensures .0) (s .sum-tags .ensures) (w .write-file .ensures)
+    let h = s .before .before in
+    let d = start h in
+    tag-file-made _ _ (h .head-for .result) (tagHead (d .args .code) (d .args .s .now)) (item (d .args .s .now)) _ _ (d .args .out .now) _ (h .before .keys-in .ensures) (h .head-for .ensures) (s .sum-tags .ensures) (w .write-file .ensures)
 
 pub write-tag-file-spec : {M : Type 1} → statement M
 write-tag-file-spec =

@@ -18,7 +18,7 @@ returns c =
     let q = c .before .before .before in
     let d = q .before .before in
     let k = d .args .keys .now in
-    let e = begun-is k (d .args .code) (d .args .n) _ (c .keys-in .ensures) in
+    let e = begun-is k (d .args .code) (d .args .n) (d .args .number) _ (c .keys-in .ensures) in
     (q .begin-refusal .ensures, e ∙ given _ (beginRefusal k (d .args .code) (d .args .n)) (q .begin-refusal .ensures) _ closed (c .before .if1 .taken))
 
 returns-2 : tie.Need-returns-2

@@ -4,6 +4,7 @@ use Rattle.incidence.specs.Sum.{rowSum}
 use Rattle.sizes.specs.Sizes.{familyOf}
 use Rattle.files.specs.Message.{behind, item}
 use Rattle.files.proofs.Messages.{behind-more}
+use Rattle.cipher.specs.Cmac.{macWith}
 use Rattle.keyed.specs.Keyed.{itemHashBy}
 use Rattle.sums.specs.Adding.{Holds}
 use Rattle.tagging.specs.Tagging.{hashes}
@@ -12,11 +13,11 @@ use Rattle.tagging.proofs.sum_rows.Statement.{statement}
 use Rattle.tagging.proofs.sum_rows.Tie as tie
 
 abbrev Inv-loop : tie.InvT-loop
-Inv-loop code s sums₀ k n c₀ sums c = (c .passed ≤ n) × (c .at ≡ behind s (c .passed)) × (length sums ≡ length sums₀)
-    × Holds (familyOf code .rows) (λ t. rowSum (familyOf code) (λ j. itemHashBy k j (item s j)) (c .passed) t) sums₀ sums
+Inv-loop code st s sums₀ k n c₀ sums c = (c .passed ≤ n) × (c .at ≡ behind s (c .passed)) × (length sums ≡ length sums₀)
+    × Holds (familyOf code .rows) (λ t. rowSum (familyOf code) (λ j. itemHashBy (macWith k) st j (item s j)) (c .passed) t) sums₀ sums
 
 abbrev μ-loop : tie.MeasureT-loop
-μ-loop code s sums₀ k n c₀ sums c = n - c .passed
+μ-loop code st s sums₀ k n c₀ sums c = n - c .passed
 
 loop-holds : tie.Need-loop-holds Inv-loop μ-loop
 unfolding behind
@@ -28,8 +29,8 @@ loop-holds c =
       omega (arith, f .1),
       f .0 ∙ ap (behind (d .args .s .now)) (sym (f .1)),
       refl,
-      summed-as F (F .rows) (λ i. i) (λ j. itemHashBy k j (item (d .args .s .now) j)) 0 (c .first .result .passed) _ _ (sym (f .1))
-          (summed-first F (F .rows) (λ i. i) (λ j. itemHashBy k j (item (d .args .s .now) j)) (d .args .sums .now) (d .pre .1 .1)),
+      summed-as F (F .rows) (λ i. i) (λ j. itemHashBy (macWith k) (d .args .stamp) j (item (d .args .s .now) j)) 0 (c .first .result .passed) _ _ (sym (f .1))
+          (summed-first F (F .rows) (λ i. i) (λ j. itemHashBy (macWith k) (d .args .stamp) j (item (d .args .s .now) j)) (d .args .sums .now) (d .pre .1 .1)),
     )
 
 add-start : tie.Need-add-start Inv-loop μ-loop
@@ -76,12 +77,13 @@ loop-again c =
     let F = familyOf (d .args .code) in
     let s = d .args .s .now in
     let k = l .before .before .before .prepare .result in
+    let st = d .args .stamp in
     let q = l .loop .c in (
       omega (arith, x .next .ensures .1, x .before .before .if1 .taken),
       x .next .ensures .0 ∙ behind-more s (q .passed) (q .at) (l .loop .inv .1) ∙ ap (behind s) (sym (x .next .ensures .1)),
       search needs,
-      summed-next F (F .rows) (λ i. i) (λ j. itemHashBy k j (item s j)) (d .args .sums .now) (l .loop .sums) _ _ (q .passed) (x .next .result .passed) (x .next .ensures .1)
-          (c .before .before .before .before .item-hash .ensures ∙ ap (itemHashBy k (x .next .result .passed)) (item-here s (q .passed) (x .next .result .passed) (q .at) (x .next .result .at) (l .loop .inv .1) (x .next .ensures .1) (x .next .ensures .0)))
+      summed-next F (F .rows) (λ i. i) (λ j. itemHashBy (macWith k) st j (item s j)) (d .args .sums .now) (l .loop .sums) _ _ (q .passed) (x .next .result .passed) (x .next .ensures .1)
+          (c .before .before .before .before .item-hash .ensures ∙ ap (itemHashBy (macWith k) st (x .next .result .passed)) (item-here s (q .passed) (x .next .result .passed) (q .at) (x .next .result .at) (l .loop .inv .1) (x .next .ensures .1) (x .next .ensures .0)))
           (l .loop .inv .3) (c .before .before .add-to-rows .ensures),
     )
 
@@ -93,7 +95,7 @@ returns c =
     let F = familyOf (d .args .code) in
     let p = l .before .before .before .prepare .ensures in
     let e : l .loop .c .passed ≡ l .before .before .item-count .result = omega (arith, l .loop .inv .0) in
-    summed-ready F (F .rows) (λ i. i) (d .args .keys .item) _ (item (d .args .s .now)) (l .loop .c .passed) _ _ _ p (e ∙ l .before .before .item-count .ensures .0) (l .loop .inv .3)
+    summed-ready F (F .rows) (λ i. i) (d .args .keys .item) _ (d .args .stamp) (item (d .args .s .now)) (l .loop .c .passed) _ _ _ p (e ∙ l .before .before .item-count .ensures .0) (l .loop .inv .3)
 
 pub sum-rows-spec : {M : Type 1} → statement M
 sum-rows-spec =

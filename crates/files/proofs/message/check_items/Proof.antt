@@ -21,7 +21,7 @@ loop-holds c =
     let e = c .first .ensures in
     let d = c .before .before .before in
     let l = headed (d .args .s .now) (d .pre) in
-    (omega arith, omega (arith, l), ap (refuseItems (d .args .s .now)) (e .1), e .0 ∙ ap (behind (d .args .s .now)) (sym (e .1)), l .1)
+    (omega arith, omega (arith, e .0, l), ap (refuseItems (d .args .s .now)) (e .1), e .0 ∙ ap (behind (d .args .s .now)) (sym (e .1)), l .1)
 
 next-requires : tie.Need-next-requires Inv-loop μ-loop
 next-requires c κs =
@@ -67,5 +67,5 @@ returns-3 c =
 pub check-items-spec : {M : Type 1} → statement M
 check-items-spec =
     tie.close
-    (tie.spec Inv-loop μ-loop item-count-requires (λ c κs. search needs) loop-holds (λ c κs. search needs) next-requires
+    (tie.spec Inv-loop μ-loop item-count-requires (λ c κs. omega (arith, headed _ (c .before .before .pre))) loop-holds (λ c κs. search needs) next-requires
     (λ c. search needs) loop-again (λ c. search needs) returns returns-2 (λ c. search needs) returns-3)

@@ -1,7 +1,7 @@
--- The two bytes at the place (Messages).
+-- The two bytes at the place (Fronts).
 use Rattle.fips197.proofs.Kit.{ap, _∙_, arith, needs}
 use Rattle.files.specs.Message.{number16}
-use Rattle.files.proofs.Messages.{two-at}
+use Rattle.stamp.proofs.Fronts.{two-at}
 use Rattle.blocks.specs.Number.{number}
 use Rattle.files.proofs.message.number16.Statement.{statement}
 use Rattle.files.proofs.message.number16.Tie as tie

@@ -5,8 +5,8 @@ use Rattle.files.proofs.TagFiles.{mac-is}
 use Rattle.files.proofs.tagfile.check_mac.Statement.{statement}
 use Rattle.files.proofs.tagfile.check_mac.Tie as tie
 
-long : (c : tie.After-shared-slice-known) → 24 ≤ length (c .before .args .s .now)
-long c = formed _ (c .before .pre) .long
+long : (c : tie.After-shared-slice-known) → 16 ≤ length (c .before .args .s .now)
+long c = omega (arith, formed (c .before .args .s .now) (c .before .pre) .long)
 
 returns : tie.Need-returns
 returns c =

@@ -12,7 +12,7 @@ returns c =
     let t = c .before .before in
     let h = t .before .head-of .ensures .0 in
     let n = length (t .before .before .before .args .s .now) in
-    ap (eqb n) (c .file-size .ensures .0 ∙ ap (λ (x : Head). fileSize (x .code)) h)
+    ap (eqb n) (c .file-size .ensures .0 ∙ ap fileSize h)
     ∙ both-right _ _ _ (sym (t .count-fits .ensures ∙ ap (λ (x : Head). countFits (x .code) (x .count)) h)) (c .before .if1 .taken)
 
 returns-2 : tie.Need-returns-2

@@ -1,5 +1,6 @@
 -- The sums take the item's hash (Stepping).
 use Rattle.fips197.proofs.Kit.{_≡_, _+_, length, needs}
+use Rattle.files.specs.TagFile.{stampFor}
 use Rattle.tagging.proofs.Summing.{added-ready}
 use Rattle.session.proofs.Carried.{sums-fit, added-is}
 use Rattle.session.proofs.Stepping.{with-item-is}
@@ -8,7 +9,7 @@ use Rattle.session.proofs.Session.with_item.Tie as tie
 
 add-item-requires : tie.Need-add-item-requires
 add-item-requires c κs =
-    let d = c .before .before .before .before .before .before .before in
+    let d = c .before .before .before .before .before .before .before .before in
     let s = d .args .self in
     let h : length (s .sums) ≡ 1312 = search needs in
     (d .pre .0, sums-fit (s .code) (s .sums) h)
@@ -16,11 +17,13 @@ add-item-requires c κs =
 returns : tie.Need-returns
 returns c =
     let p = c .before .before .before in
-    let d = p .before .before .before .before .before .before in
+    let t = p .before .before .before in
+    let d = t .before .before .before .before in
     let s = d .args .self in
     let h : length (s .sums) ≡ 1312 = search needs in
     with-item-is s (d .args .item .now) _
-    (added-is (s .code) _ _ (s .sums) _ h (added-ready (s .code) (s .taken + 1) (s .keys .item) _ (d .args .item .now) _ _ (p .prepare .ensures) (c .before .add-item .ensures)))
+    (added-is (s .code) _ _ (s .sums) _ h
+    (added-ready (s .code) (s .taken + 1) (s .keys .item) _ _ (stampFor (s .number)) (d .args .item .now) _ _ (p .prepare .ensures) (t .stamp-for .ensures) (c .before .add-item .ensures)))
 
 pub with-item-spec : {M : Type 1} → statement M
-with-item-spec = tie.close (tie.spec (λ c. search needs) (λ c κs. search needs) (λ c. search needs) add-item-requires returns)
+with-item-spec = tie.close (tie.spec (λ c κs. search needs) (λ c. search needs) (λ c κs. search needs) (λ c. search needs) add-item-requires returns)
