@@ -2,7 +2,7 @@
 use Rattle.fips197.proofs.Kit.{_≡_, ap, List, ℕ, _+_, _^_, _≤_, _<_, arith, length, length-append}
 use Rattle.printing.specs.Text.{ascii, labelled}
 use Rattle.printing.proofs.Lengths.{decimal-64}
-use Rattle.command.specs.Said.{countLine, itemLine, temporaryName}
+use Rattle.command.specs.Said.{countLine, messageLine, itemLine, temporaryName}
 
 -- at the front
 pub room-front : (room long most : ℕ) → long ≤ most → most ≤ room → 0 + long ≤ room
@@ -14,6 +14,12 @@ short-front r long most e h = omega (arith, e)
 pub count-short : (n : ℕ) → n < 2 ^ 64 → length (countLine n) ≤ 27
 unfolding countLine labelled ascii
 count-short n h = simp length-append (omega (arith, decimal-64 n h))
+
+pub message-short : (n number : ℕ) → n < 2 ^ 64 → number < 2 ^ 32 → length (messageLine n number) ≤ 55
+unfolding messageLine labelled ascii
+message-short n number h k =
+    let l : number < 2 ^ 64 = omega arith in
+    simp length-append (omega (arith, decimal-64 n h, decimal-64 number l))
 
 pub item-short : (j long : ℕ) → j < 2 ^ 64 → long < 2 ^ 64 → length (itemLine j long) ≤ 53
 unfolding itemLine labelled ascii

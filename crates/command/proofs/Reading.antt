@@ -5,7 +5,8 @@ use Rattle.incidence.proofs.Booleans.{and-left, and-right, and-both, and-false-
 use Rattle.printing.specs.Text.{decimal}
 use Rattle.printing.proofs.Decimals.{before, decimal-last}
 use Rattle.command.specs.declared.numbers.Parsed.{Parsed}
-use Rattle.command.specs.Numbers.{isDigit, digitsOnly, withDigit, withDigits, isNumber, parsedNumber}
+use Rattle.command.specs.declared.numbers.Parsed32.{Parsed32}
+use Rattle.command.specs.Numbers.{isDigit, digitsOnly, withDigit, withDigits, isNumber, parsedNumber, isNumber32, parsedNumber32}
 
 abbrev none : Parsed
 none = record { ok = false; value = 0 }
@@ -142,6 +143,48 @@ reading-done s v i so h =
         sym (ap (λ (t : Bool). if t then record { ok = true; value = withDigits 0 s } else none) a ∙ ap (λ (x : ℕ). record { ok = true; value = x }) n)
     go [] v i so e n d b false q = ap (λ (x : ℕ). record { ok = false; value = x }) (sym n)
     go (x ∷ s) v i so e n d b false q = let l = ltb-false 0 i q in absurd (omega (arith, l, e))
+
+-- ---- a number of 32 bits
+
+abbrev none32 : Parsed32
+none32 = record { ok = false; value = 0 }
+
+-- p is what the text writes
+module _ (s : List ℕ) (p : Parsed) (e : p ≡ parsedNumber s) where
+  either : (t : Bool) → Parsed
+  either t = if t then record { ok = true; value = withDigits 0 s } else none
+
+  either32 : (t : Bool) → Parsed32
+  either32 t = if t then record { ok = true; value = withDigits 0 s } else none32
+
+  so : (t : Bool) → isNumber s ≡ t → p ≡ either t
+  unfolding parsedNumber either
+  so t q = e ∙ ap either q
+
+  pub above-32 : 2 ^ 32 ≤ p .value → none32 ≡ parsedNumber32 s
+  unfolding parsedNumber32 isNumber32 either either32
+  above-32 h = go (isNumber s) refl
+    where
+      go : (t : Bool) → isNumber s ≡ t → none32 ≡ parsedNumber32 s
+      go false q = sym (ap either32 (and-false-l (isNumber s) (ltb (withDigits 0 s) (2 ^ 32)) q))
+      go true q =
+          let v = ap (λ (x : Parsed). x .value) (so true q) in
+          let l : 2 ^ 32 ≤ withDigits 0 s = omega arith in
+          sym (ap either32 (and-false-r (isNumber s) _ (le-ltb (withDigits 0 s) (2 ^ 32) l)))
+
+  pub below-32 : p .value < 2 ^ 32 → record { ok = p .ok; value = p .value } ≡ parsedNumber32 s
+  unfolding parsedNumber32 isNumber32 either either32
+  below-32 h = go (isNumber s) refl
+    where
+      go : (t : Bool) → isNumber s ≡ t → record { ok = p .ok; value = p .value } ≡ parsedNumber32 s
+      go false q =
+          ap (λ (x : Parsed). record { ok = x .ok; value = x .value }) (so false q)
+          ∙ sym (ap either32 (and-false-l (isNumber s) (ltb (withDigits 0 s) (2 ^ 32)) q))
+      go true q =
+          let v = ap (λ (x : Parsed). x .value) (so true q) in
+          let l : withDigits 0 s < 2 ^ 32 = omega arith in
+          ap (λ (x : Parsed). record { ok = x .ok; value = x .value }) (so true q)
+          ∙ sym (ap either32 (and-both q (lt-ltb (withDigits 0 s) (2 ^ 32) l)))
 
 -- ---- the digits of a number are read back
 

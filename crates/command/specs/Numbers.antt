@@ -1,5 +1,5 @@
--- A number typed as a word: decimal digits, at least one, that write a number below 2^64. Cited by the contract of `number_in`.
--- Assumes nothing.
+-- A number typed as a word: decimal digits, at least one, that write a number below 2^64, or one below 2^32. Cited by the contracts of
+-- `number_in` and `number32_in`. Assumes nothing.
 use mathlib.Core.Bool.{Bool, true, false, _&&_}
 use mathlib.Core.List.{List, [], _∷_}
 use Prim.Native.Nat.{ℕ, _+_, _-_, _*_, _^_}
@@ -7,6 +7,7 @@ use lib.Dec.{leb, ltb}
 use lib.ListN.{length}
 use Rattle.blocks.specs.Block.{if_then_else_}
 use Rattle.command.specs.declared.numbers.Parsed.{Parsed}
+use Rattle.command.specs.declared.numbers.Parsed32.{Parsed32}
 
 -- one of the characters 0 to 9
 unfoldable pub isDigit : ℕ → Bool
@@ -33,3 +34,10 @@ isNumber text = (ltb 0 (length text) && digitsOnly text) && ltb (withDigits 0 te
 -- the number that a text writes, or that it writes none: then the value is 0
 unfoldable pub parsedNumber : List ℕ → Parsed
 parsedNumber text = if isNumber text then record { ok = true; value = withDigits 0 text } else record { ok = false; value = 0 }
+
+-- the same of a number that 32 bits hold
+unfoldable pub isNumber32 : List ℕ → Bool
+isNumber32 text = isNumber text && ltb (withDigits 0 text) (2 ^ 32)
+
+unfoldable pub parsedNumber32 : List ℕ → Parsed32
+parsedNumber32 text = if isNumber32 text then record { ok = true; value = withDigits 0 text } else record { ok = false; value = 0 }

@@ -7,6 +7,10 @@ use Rattle.printing.specs.Text.{ascii, labelled}
 unfoldable pub countLine : ℕ → List ℕ
 countLine n = labelled "cards " n ++ ascii "\n"
 
+-- and which number
+unfoldable pub messageLine : ℕ → ℕ → List ℕ
+messageLine n number = labelled "cards " n ++ labelled " number " number ++ ascii "\n"
+
 -- card j and how many bytes it has
 unfoldable pub itemLine : ℕ → ℕ → List ℕ
 itemLine j long = labelled "card " j ++ labelled " bytes " long ++ ascii "\n"

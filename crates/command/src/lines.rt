@@ -4,7 +4,7 @@ ghost use mathlib.Core.Path.{_≡_};
 ghost use Prim.Native.Nat.{_+_, _≤_};
 ghost use lib.ListN.{length};
 ghost use Rattle.printing.specs.Text.{over};
-ghost use Rattle.command.specs.Said.{countLine, itemLine, temporaryName};
+ghost use Rattle.command.specs.Said.{countLine, messageLine, itemLine, temporaryName};
 
 // Puts the line of how many cards there are.
 pub fn put_count_line(out: &mut [u8], at: usize, n: usize) -> usize
@@ -14,6 +14,18 @@ pub fn put_count_line(out: &mut [u8], at: usize, n: usize) -> usize
     ensures short { λ r. ⌜ r ≤ at + 27 ⌝ }
 {
     let next = printing::put_labelled(out, at, b"cards ", n as u64);
+    printing::put(out, next, b"\n")
+}
+
+// Puts the line of how many cards a message has, and of its number.
+pub fn put_message_line(out: &mut [u8], at: usize, n: usize, number: u32) -> usize
+    requires { ⌜ at + 55 ≤ length (now out) ⌝ }
+    ensures written { λ _. ⌜ now (out .exit) ≡ over at (messageLine n number) (now (out .entry)) ⌝ }
+    ensures behind { λ r. ⌜ r ≡ at + length (messageLine n number) ⌝ }
+    ensures short { λ r. ⌜ r ≤ at + 55 ⌝ }
+{
+    let next = printing::put_labelled(out, at, b"cards ", n as u64);
+    let next = printing::put_labelled(out, next, b" number ", number as u64);
     printing::put(out, next, b"\n")
 }
 

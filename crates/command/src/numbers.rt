@@ -3,12 +3,18 @@ ghost use mathlib.Core.Path.{_≡_};
 ghost use mathlib.Core.Bool.{_&&_};
 ghost use Prim.Native.Nat.{_+_, _-_, _*_, _^_, _≤_, _<_};
 ghost use lib.Dec.{ltb};
-ghost use Rattle.command.specs.Numbers.{isDigit, withDigit, parsedNumber};
+ghost use Rattle.command.specs.Numbers.{isDigit, withDigit, parsedNumber, parsedNumber32};
 
 // A number that a text writes, or that it writes none: the value is 0 then.
 pub struct Parsed {
     pub ok: bool,
     pub value: u64,
+}
+
+// The same of a number that has 32 bits.
+pub struct Parsed32 {
+    pub ok: bool,
+    pub value: u32,
 }
 
 // Whether a byte is a digit that leaves the number below 2^64.
@@ -52,5 +58,22 @@ pub fn number_in(text: &[u8]) -> Parsed
     Parsed {
         ok: 0 < i,
         value: value,
+    }
+}
+
+// The same of a value below 2^32.
+pub fn number32_in(text: &[u8]) -> Parsed32
+    ensures { λ r. ⌜ r ≡ parsedNumber32 (now (text .entry)) ⌝ }
+{
+    let parsed = number_in(text);
+    if parsed.value > u32::MAX as u64 {
+        return Parsed32 {
+            ok: false,
+            value: 0,
+        };
+    }
+    Parsed32 {
+        ok: parsed.ok,
+        value: parsed.value as u32,
     }
 }

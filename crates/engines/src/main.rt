@@ -67,22 +67,14 @@ fn tagged_by_plain(
     let mut out = sheet;
     let zeros = [0u8; sums::TAGS_MOST];
     let end = 16 * t;
-    inputs::put(&mut out, files::tagfile::TAGS_AT, &zeros[0..end]);
-    turn(
-        tag_schedule(),
-        true,
-        t,
-        sums,
-        0,
-        &mut out,
-        files::tagfile::TAGS_AT,
-    );
+    inputs::put(&mut out, inputs::TAGS_AT, &zeros[0..end]);
+    turn(tag_schedule(), true, t, sums, 0, &mut out, inputs::TAGS_AT);
     out
 }
 
 // The sums that the plain engine has back from a sheet; zeros behind them.
 fn sums_by_plain(sheet: &[u8], t: usize) -> [u8; sums::TAGS_MOST]
-    requires { ⌜ (t ≤ 82) × (8 + 16 * t ≤ length (now sheet)) ⌝ }
+    requires { ⌜ (t ≤ 82) × (12 + 16 * t ≤ length (now sheet)) ⌝ }
 {
     let mut out = [0u8; sums::TAGS_MOST];
     turn(
@@ -90,7 +82,7 @@ fn sums_by_plain(sheet: &[u8], t: usize) -> [u8; sums::TAGS_MOST]
         false,
         t,
         sheet,
-        files::tagfile::TAGS_AT,
+        inputs::TAGS_AT,
         &mut out,
         0,
     );
@@ -99,7 +91,7 @@ fn sums_by_plain(sheet: &[u8], t: usize) -> [u8; sums::TAGS_MOST]
 
 // The sums of the tagged rows of a shelf of n cards; zeros behind them.
 fn sums_of(code: u64, n: u64, shelf: &[u8]) -> [u8; sums::TAGS_MOST] {
-    let step = session::begin(&KEYS, code, n);
+    let step = session::begin(&KEYS, code, n, 0);
     let s = sessions::put_cards(step.session, shelf, n);
     s.sums
 }
@@ -147,7 +139,7 @@ fn tables_tag(code: u64, n: u64, shelf: &[u8], altered: &[u8], sums: &[u8]) {
 // Makes a sheet by each engine; each is verified by the other, and they are compared.
 fn cross(code: u64, n: u64, shelf: &[u8], altered: &[u8]) {
     let end = inputs::sheet_length(code);
-    let t = (end - 24) / 16;
+    let t = (end - 28) / 16;
     let mut sheet = [0u8; files::tagfile::MOST];
     scheme::tag(&KEYS, code, shelf, &mut sheet);
     let other = tagged_by_plain(sheet, t, &sums_of(code, n, shelf));
@@ -167,7 +159,7 @@ fn size(code: u64) {
     let mut shelf = [0u8; 1099];
     inputs::put_short_cards(&mut shelf, n);
     let mut altered = shelf;
-    inputs::alter(&mut altered, 0, 1);
+    inputs::alter(&mut altered, 9, 0, 1);
     cross(code, n as u64, &shelf[0..end], &altered[0..end]);
 }
 

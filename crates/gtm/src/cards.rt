@@ -1,4 +1,5 @@
 // Pack, fetch and list: the commands on message files that need no keys.
+use crate::heads;
 use crate::input;
 use crate::output;
 use crate::say;
@@ -6,12 +7,14 @@ use crate::words;
 use command::lines;
 use command::packs;
 use files::message;
+use stamp::Stamp;
 ghost use Prim.Native.Nat.{_≤_, _<_};
 ghost use lib.ListN.{length};
 
 // Appends the card file that word i names to the message of n bytes, and answers how many bytes it has then, 0 where it cannot; says why.
-fn append_file(file: &mut [u8], n: usize, i: usize) -> usize
-    requires { ⌜ 3 ≤ i ⌝ }
+// Word `first` names the first card.
+fn append_file(file: &mut [u8], n: usize, i: usize, first: usize) -> usize
+    requires { ⌜ (first ≤ i) × (1 ≤ first) ⌝ }
     ensures { λ r. ⌜ r ≤ length (now (file .exit)) ⌝ }
 {
     let mut card = [0u8; input::CARD];
@@ -20,7 +23,7 @@ fn append_file(file: &mut [u8], n: usize, i: usize) -> usize
         return 0;
     }
     let long = got.n;
-    let step = packs::add_card(file, n, &card[0..long], i - 2);
+    let step = packs::add_card(file, n, &card[0..long], i - (first - 1));
     let refused = step.refused;
     if refused.number != 0 {
         say::refused(refused);
@@ -29,15 +32,15 @@ fn append_file(file: &mut [u8], n: usize, i: usize) -> usize
     step.size
 }
 
-// Appends the card files that the words 3 to count - 1 name, as append_file does one.
-fn append_files(file: &mut [u8], count: usize) -> usize
-    requires { ⌜ 7 ≤ length (now file) ⌝ }
+// Appends the card files that the words from `first` to count - 1 name to the message of `size` bytes, as append_file does one.
+fn append_files(file: &mut [u8], size: usize, first: usize, count: usize) -> usize
+    requires { ⌜ (size ≤ length (now file)) × (1 ≤ first) ⌝ }
     ensures { λ r. ⌜ r ≤ length (now (file .exit)) ⌝ }
 {
-    let mut n = 7;
-    let mut i = 3;
+    let mut n = size;
+    let mut i = first;
     while i < count {
-        n = append_file(file, n, i);
+        n = append_file(file, n, i, first);
         if n == 0 {
             return 0;
         }
@@ -52,21 +55,49 @@ fn say_count(n: usize) -> bool {
     say::result(&line[0..e])
 }
 
+// Packs the card files that the words behind word i name into the message file that word i names, of this version and number.
+fn pack_as(stamp: Stamp, i: usize, count: usize)
+    requires { ⌜ i < count ⌝ }
+{
+    let mut file = [0u8; message::MOST];
+    packing::begin(&mut file, stamp);
+    let n = append_files(&mut file, message::items_at(stamp.version), i + 1, count);
+    if n == 0 {
+        return;
+    }
+    if output::write(i, &file[0..n]) {
+        say_count(count - i - 1);
+    }
+}
+
 pub fn pack() {
     let count = os::arg_count();
     if count < 4 {
         say::error(b"a missing word", b"");
         return;
     }
-    let mut file = [0u8; message::MOST];
-    packing::begin(&mut file);
-    let n = append_files(&mut file, count);
-    if n == 0 {
+    let stamp = Stamp {
+        version: 1,
+        number: 0,
+    };
+    pack_as(stamp, 2, count);
+}
+
+pub fn pack_numbered() {
+    let count = os::arg_count();
+    if count < 5 {
+        say::error(b"a missing word", b"");
         return;
     }
-    if output::write(2, &file[0..n]) {
-        say_count(count - 3);
+    let number = words::number32(2);
+    if !number.ok {
+        return;
     }
+    let stamp = Stamp {
+        version: message::NEWEST,
+        number: number.value,
+    };
+    pack_as(stamp, 3, count);
 }
 
 fn fetch_card(s: &[u8], j: u64) {
@@ -114,8 +145,14 @@ fn list_cards(s: &[u8], count: usize)
     }
 }
 
+fn say_message(count: usize, number: u32) -> bool {
+    let mut line = [0u8; 55];
+    let e = lines::put_message_line(&mut line, 0, count, number);
+    say::result(&line[0..e])
+}
+
 // Lists a message. A message without cards has no card 1, which is 8: its list is empty.
-fn list_message(s: &[u8], count: usize)
+fn list_message(s: &[u8], count: usize, number: u32)
     requires { ⌜ count < 65536 ⌝ }
 {
     let refused = message::fetch_refusal(s, 1);
@@ -125,7 +162,7 @@ fn list_message(s: &[u8], count: usize)
             return;
         }
     }
-    if say_count(count) {
+    if say_message(count, number) {
         list_cards(s, count);
     }
 }
@@ -138,7 +175,8 @@ pub fn list() {
     let m = input::read(2, &mut message);
     if m.ok {
         let n = m.n;
-        let count = message::item_count(&message);
-        list_message(&message[0..n], count);
+        let count = heads::count_in(&message);
+        let number = heads::number_in(&message);
+        list_message(&message[0..n], count, number);
     }
 }

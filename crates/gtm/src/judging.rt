@@ -1,8 +1,8 @@
 // Verify and report.
+use crate::heads;
 use crate::input;
 use crate::say;
 use crate::words;
-use files::tagfile;
 use files::tagfile::Head;
 
 fn say_verify(keys: &[u8], message: &[u8], tags: &[u8]) {
@@ -50,7 +50,7 @@ fn judge_message(keys: &[u8], message: &[u8], is_report: bool) {
     }
     let n = got.n;
     if is_report {
-        let head = tagfile::head_of(&tags);
+        let head = heads::head_in(&tags);
         say_report(keys, message, &tags[0..n], head);
     } else {
         say_verify(keys, message, &tags[0..n]);

@@ -1,6 +1,7 @@
-// The command for people: packs card files into a message file, tags it, verifies and reports it, replaces a card in its tag file, and
-// lists and fetches its cards. What it computes is proved in the crates below; here it reads and writes.
+// The command for people: packs card files into a message file, with a number or without, tags it, verifies and reports it, replaces a card
+// in its tag file, and lists and fetches its cards. What it computes is proved in the crates below; here it reads and writes.
 mod cards;
+mod heads;
 mod input;
 mod judging;
 mod output;
@@ -27,7 +28,9 @@ fn run(word: &[u8]) {
 
 // The commands that need no keys.
 fn run_small(word: &[u8]) {
-    if check::same(word, b"fetch") {
+    if check::same(word, b"pack-numbered") {
+        cards::pack_numbered();
+    } else if check::same(word, b"fetch") {
         cards::fetch();
     } else if check::same(word, b"list") {
         cards::list();

@@ -23,6 +23,10 @@ pub fn usage(fd: i32) {
     );
     io::write_all(
         fd,
+        b"gtm pack-numbered NUMBER OUT FILE..       the same, with a number of its own\n",
+    );
+    io::write_all(
+        fd,
         b"gtm tag KEYS SIZE SHELF OUT               the sheet of a shelf; SIZE is 1 to 4\n",
     );
     io::write_all(fd, b"gtm verify KEYS SHELF SHEET               yes or no\n");
@@ -76,7 +80,7 @@ fn of_message(number: u8) {
         1 => err(b"the key file does not have 48 bytes\n"),
         2 => err(b"the size is not 1, 2, 3 or 4\n"),
         3 => err(
-            b"the shelf has under 7 or over 65,536 bytes (a place: with that card file), or does not begin as a shelf of version 1\n",
+            b"the shelf has too few or over 65,536 bytes (a place: with that card file), or does not begin as a shelf of version 1 or 2\n",
         ),
         4 => err(b"the shelf has no card, or more cards than the size allows\n"),
         _ => err(
@@ -94,6 +98,7 @@ fn of_tags(number: u8) {
         8 => err(b"there is no card of that number\n"),
         9 => err(b"a card file has over 1,024 bytes (the place: which one)\n"),
         20 => err(b"the sheet was altered, or was made with other keys\n"),
-        _ => err(b"the shelf and the sheet have different numbers of cards\n"),
+        21 => err(b"the shelf and the sheet have different numbers of cards\n"),
+        _ => err(b"the shelf and the sheet have different numbers\n"),
     }
 }

@@ -1,4 +1,5 @@
 // Tag and replace: the commands that write a tag file.
+use crate::heads;
 use crate::input;
 use crate::output;
 use crate::say;
@@ -10,14 +11,14 @@ ghost use lib.ListN.{length};
 
 // Writes the tag file that out begins with to the file that word i names and says its line, or says the refusal.
 fn finish(refused: Refusal, i: usize, out: &[u8])
-    requires { ⌜ 1336 ≤ length (now out) ⌝ }
+    requires { ⌜ 1340 ≤ length (now out) ⌝ }
 {
     if refused.number != 0 {
         say::refused(refused);
         return;
     }
-    let head = tagfile::head_of(out);
-    let n = tagfile::file_size(head.code);
+    let head = heads::head_in(out);
+    let n = tagfile::file_size(head);
     if !output::write(i, &out[0..n]) {
         return;
     }

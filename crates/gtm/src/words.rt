@@ -2,6 +2,7 @@
 use crate::say;
 use command::numbers;
 use command::numbers::Parsed;
+use command::numbers::Parsed32;
 
 // Whether there are so many words, the program's name among them; says what is wrong otherwise.
 pub fn exactly(n: usize) -> bool {
@@ -21,6 +22,17 @@ pub fn number(i: usize) -> Parsed {
     let mut word = io::buffer();
     let n = os::arg(i, &mut word);
     let parsed = numbers::number_in(&word[0..n]);
+    if !parsed.ok {
+        say::error(b"a bad number: ", &word[0..n]);
+    }
+    parsed
+}
+
+// The same of a number of 32 bits.
+pub fn number32(i: usize) -> Parsed32 {
+    let mut word = io::buffer();
+    let n = os::arg(i, &mut word);
+    let parsed = numbers::number32_in(&word[0..n]);
     if !parsed.ok {
         say::error(b"a bad number: ", &word[0..n]);
     }

@@ -1,12 +1,35 @@
--- What an append that passes tells of file and item, and what each test of the code settles.
-use Rattle.fips197.proofs.Kit.{_≡_, refl, sym, ap, _∙_, Bool, true, false, List, [], _∷_, ℕ, _+_, _-_, _≤_, _<_, arith, leb, ltb, length, take, length-take, leb-true, leb-false, le-leb, lt-leb, ltb-true}
+-- What a begin that passes tells of stamp and room, and an append of file and item, and what each test of the code settles.
+use Rattle.fips197.proofs.Kit.{_≡_, refl, sym, ap, ap₂, _∙_, Bool, true, false, _&&_, and-true, List, [], _∷_, ℕ, zero, suc, _+_, _-_, _^_, _≤_, _<_, arith, eqb, leb, ltb, ne-eqb, le-ltb, lt-ltb, length, take, length-take, leb-true, leb-false, le-leb, lt-leb, ltb-true}
+use Rattle.incidence.specs.Count.{inside}
+use Rattle.stamp.specs.declared.Stamp.{Stamp}
+use Rattle.stamp.specs.Front.{stampFits, versionOf}
+use Rattle.stamp.proofs.Fronts.{size-first, size-later}
 use Rattle.files.specs.declared.Refusal.{Refusal}
 use Rattle.files.specs.Refusals.{refusal, unless}
-use Rattle.files.specs.Message.{itemCount, refuse3}
+use Rattle.files.specs.Message.{newestMessage, itemsAt, itemCount, refuse3}
 use Rattle.files.specs.Arguments.{refuse7, refuse9}
 use Rattle.files.proofs.Passing.{rest-passes, unless-false, unless-passes, number-of}
 use Rattle.files.proofs.Messages.{headed}
-use Rattle.packing.specs.Packing.{appendRefusal}
+use Rattle.packing.specs.Packing.{beginFileRefusal, appendRefusal}
+
+-- ---- 3, of a stamp
+
+-- version 1 has no bytes for a number, and so 0 alone; each later one has four
+pub fits-first : (st : Stamp) → st .version ≡ 1 → eqb (st .number) 0 ≡ stampFits newestMessage st
+unfolding stampFits newestMessage
+fits-first st e =
+    zero-only (st .number)
+    ∙ ap₂ (λ (v k : ℕ). inside 2 v && ltb (st .number) (256 ^ k)) (sym e) (sym (size-first (st .version) e))
+  where
+    zero-only : (n : ℕ) → eqb n 0 ≡ ltb n 1
+    zero-only zero = refl
+    zero-only (suc n) = let l : 1 ≤ suc n = omega arith in ne-eqb (suc n) 0 (λ z. omega arith) ∙ sym (le-ltb (suc n) 1 l)
+
+pub fits-later : (st : Stamp) → (st .version ≡ 1 → ⊥) → st .number < 256 ^ 4 → inside newestMessage (st .version) ≡ stampFits newestMessage st
+unfolding stampFits
+fits-later st e l =
+    let i = inside newestMessage (st .version) in
+    sym (ap (λ (t : Bool). i && t) (ap (λ (k : ℕ). ltb (st .number) (256 ^ k)) (size-later (st .version) e) ∙ lt-ltb (st .number) (256 ^ 4) l) ∙ and-true i)
 
 -- ---- 7
 
@@ -32,12 +55,24 @@ pub room-tells : (size room : ℕ) (r : Refusal) → r ≡ refuse7 size room →
 unfolding refuse7
 room-tells size room r e h = leb-true size room (unless-passes _ 7 0 (omega arith) (number-of r _ e h))
 
+-- ---- what a begin that passes tells
+
+pub begins-tell : (st : Stamp) (room : ℕ) (r : Refusal) → r ≡ beginFileRefusal st room → r .number ≡ 0
+    → (stampFits newestMessage st ≡ true) × (itemsAt (st .version) ≤ room)
+unfolding beginFileRefusal
+begins-tell st room r e h =
+    let fits = stampFits newestMessage st in
+    let size = itemsAt (st .version) in
+    let a = rest-passes (unless fits 3 0) (refuse7 size room ∷ []) (number-of r _ e h) in
+    let b = rest-passes (refuse7 size room) [] (a .1) in
+    (unless-passes fits 3 0 (omega arith) (a .0), room-tells size room _ refl (b .0))
+
 -- ---- what an append that passes tells
 
 pub record Appendable (file : List ℕ) (n : ℕ) (item : List ℕ) : Type 0 where
   pub short : length item ≤ 1024
   pub room : n + 2 + length item ≤ length file
-  pub low : 7 ≤ n
+  pub low : itemsAt (versionOf (take n file)) ≤ n
   pub size : n + 2 + length item ≤ 65536
   pub more : itemCount (take n file) < 65535
 

@@ -1,14 +1,17 @@
--- Packing: a message file (document 01: shelf) built from items (cards), one after another. The file of a list of items, and the two calls
--- that build it in a lent buffer, `begin` and `append`: what each refuses and what it leaves in the buffer, for all inputs. Assumes nothing.
+-- Packing: a message file (document 01: shelf) of a version and a number built from items (cards), one after another. The file of a list of
+-- items, and the two calls that build it in a lent buffer, `begin` and `append`: what each refuses and what it leaves in the buffer, for all
+-- inputs. Assumes nothing.
 use mathlib.Core.List.{List, [], _∷_, _++_}
 use Prim.Native.Nat.{ℕ, _+_}
 use lib.Dec.{leb, ltb}
 use lib.ListN.{length, take, drop}
 use Rattle.blocks.specs.Block.{if_then_else_}
 use Rattle.blocks.specs.Number.{bigEndian}
+use Rattle.stamp.specs.declared.Stamp.{Stamp}
+use Rattle.stamp.specs.Front.{front, frontSize, stampFits, versionOf}
 use Rattle.files.specs.declared.Refusal.{Refusal}
 use Rattle.files.specs.Refusals.{unless, passes, first}
-use Rattle.files.specs.Message.{prefix, itemCount, refuse3}
+use Rattle.files.specs.Message.{messageLetters, newestMessage, itemsAt, itemCount, refuse3}
 use Rattle.files.specs.Arguments.{refuse7, refuse9}
 
 -- ---- the file of a list of items
@@ -22,22 +25,24 @@ unfoldable pub fields : List (List ℕ) → List ℕ
 fields [] = []
 fields (item ∷ rest) = field item ++ fields rest
 
--- "letters TBS, 2-byte version 1, 2-byte count, then for each card a 2-byte length and its bytes"
-unfoldable pub messageOf : List (List ℕ) → List ℕ
-messageOf items = prefix ++ (bigEndian 2 (length items) ++ fields items)
+-- "letters TBS, 2-byte version, 2-byte count, then for each card a 2-byte length and its bytes", with the shelf's number behind the version
+-- in version 2 (document 02, 2.3)
+unfoldable pub messageOf : Stamp → List (List ℕ) → List ℕ
+messageOf st items = front messageLetters st ++ (bigEndian 2 (length items) ++ fields items)
 
--- the file s with one item more behind its last
+-- the file s with one item more behind its last; its version and number stay
 unfoldable pub appended : List ℕ → List ℕ → List ℕ
-appended s item = (take 5 s ++ bigEndian 2 (itemCount s + 1)) ++ (drop 7 s ++ field item)
+appended s item = (take (frontSize (versionOf s)) s ++ bigEndian 2 (itemCount s + 1)) ++ (drop (itemsAt (versionOf s)) s ++ field item)
 
--- ---- begin (lent buffer): 7
+-- ---- begin (lent buffer, stamp): 3, 7
 
-unfoldable pub beginFileRefusal : ℕ → Refusal
-beginFileRefusal room = refuse7 7 room
+-- 3: no such version, or a number that it has no bytes for
+unfoldable pub beginFileRefusal : Stamp → ℕ → Refusal
+beginFileRefusal st room = first (unless (stampFits newestMessage st) 3 0 ∷ refuse7 (itemsAt (st .version)) room ∷ [])
 
 -- the file without items in front; the bytes behind stay, and all where it is refused
-unfoldable pub beginFileWrites : List ℕ → List ℕ
-beginFileWrites out = if passes (beginFileRefusal (length out)) then messageOf [] ++ drop 7 out else out
+unfoldable pub beginFileWrites : Stamp → List ℕ → List ℕ
+beginFileWrites st out = if passes (beginFileRefusal st (length out)) then messageOf st [] ++ drop (itemsAt (st .version)) out else out
 
 -- ---- append (lent buffer whose first n bytes are the file so far, n, item): 9, 7, 3
 

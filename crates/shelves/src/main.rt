@@ -1,6 +1,6 @@
-// Whole shelves of every size, a line of `stdin` a case in the words of trial's `line`: sessions and Replace against Tag, and reports with 0, 1, d and
-// d + 1 altered cards. `stdout` has what is right, counted from document 01's difference lists. Last, the session whose cards are too long
-// for one shelf.
+// Whole shelves of every size, a line of `stdin` a case in the words of trial's `line`: sessions and Replace against Tag, and reports with 0, 1,
+// d and d + 1 altered cards, in both versions, with a number and without. `stdout` has what is right, counted from document 01's difference
+// lists. Last, the session whose cards are too long for one shelf.
 use trial::inputs;
 use trial::inputs::KEYS;
 use trial::say;
@@ -20,17 +20,17 @@ fn put_long_cards(shelf: &mut [u8])
 }
 
 // Tag's sheet of those cards.
-fn tagged() -> [u8; 472] {
+fn tagged() -> [u8; 476] {
     let mut shelf = [0u8; 64647];
     put_long_cards(&mut shelf);
-    let mut out = [0u8; 472];
+    let mut out = [0u8; 476];
     scheme::tag(&KEYS, 3, &shelf, &mut out);
     out
 }
 
 // A session's sheet of 64 cards of 1,024 zeros.
-fn by_session() -> [u8; 472] {
-    let step = session::begin(&KEYS, 3, 64);
+fn by_session() -> [u8; 476] {
+    let step = session::begin(&KEYS, 3, 64, 0);
     let mut s = step.session;
     let mut j: u64 = 0;
     while j < 64 {
@@ -38,14 +38,14 @@ fn by_session() -> [u8; 472] {
         s = next.session;
         j += 1;
     }
-    let mut out = [0u8; 472];
+    let mut out = [0u8; 476];
     s.close(&mut out);
     out
 }
 
 // The 64 cards are too long for one shelf, until the last is replaced by the empty card.
 fn long_session() {
-    let mut out = [0u8; 472];
+    let mut out = [0u8; 476];
     scheme::replace(&KEYS, &by_session(), 64, &[0u8; 1024], b"", &mut out);
     say::text(b"session of 64 cards of 1,024 bytes, size 3, then card 64 emptied");
     let same = check::same(&out, &tagged());

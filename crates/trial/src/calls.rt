@@ -4,6 +4,7 @@ use crate::inputs;
 use crate::judge;
 use crate::say;
 use crate::sessions;
+use crate::sheets;
 use files::Refusal;
 use files::message;
 use session::Session;
@@ -33,10 +34,9 @@ fn wrote(out: &[u8]) {
     say::number(judge::written(out) as u64);
 }
 
-// Whether the buffer is as Tag leaves it for this shelf.
-fn compared(keys: &[u8], size: u64, shelf: &[u8], out: &[u8]) {
-    let mut tags = [0xa5u8; 1400];
-    scheme::tag(keys, size, shelf, &mut tags);
+// Whether the buffer is as Tag leaves it for this shelf, in a version.
+fn compared(keys: &[u8], size: u64, shelf: &[u8], version: u64, out: &[u8]) {
+    let tags = sheets::tagged(keys, size, shelf, version, [0xa5u8; 1400]);
     let same = check::same(out, front(&tags, out.len()));
     say::either(same, b", equals Tag's", b", differs from Tag's");
 }
@@ -71,7 +71,7 @@ fn report(keys: &[u8], shelf: &[u8], sheet: &[u8], out: &mut [u8]) {
     wrote(out);
 }
 
-fn replace(keys: &[u8], sheet: &[u8], n: &[u64; 19], bytes: &[u8], out: &mut [u8]) {
+fn replace(keys: &[u8], sheet: &[u8], n: &[u64; 21], bytes: &[u8], out: &mut [u8]) {
     let old = given::part(bytes, given::OLD, n[given::OLD]);
     let new = given::part(bytes, given::NEW, n[given::NEW]);
     let shelf = given::part(bytes, given::SHELF, n[given::SHELF]);
@@ -79,7 +79,7 @@ fn replace(keys: &[u8], sheet: &[u8], n: &[u64; 19], bytes: &[u8], out: &mut [u8
     say::outcome(r);
     wrote(out);
     if r.number == 0 {
-        compared(keys, n[given::SIZE], shelf, out);
+        compared(keys, n[given::SIZE], shelf, n[given::VERSION], out);
     }
 }
 
@@ -95,7 +95,7 @@ fn fetch(shelf: &[u8], j: u64, old: &[u8]) {
     }
 }
 
-// A session: closed, or with so many cards.
+// A session: closed, or with so many cards, and its number where that is not 0.
 fn session(s: Session) {
     if judge::closed(s) {
         say::text(b", session closed");
@@ -105,10 +105,14 @@ fn session(s: Session) {
     say::number(s.taken);
     say::text(b" of ");
     say::number(s.count);
+    if s.number != 0 {
+        say::text(b" number ");
+        say::number(s.number as u64);
+    }
 }
 
-fn begin(keys: &[u8], size: u64, count: u64) {
-    let step = session::begin(keys, size, count);
+fn begin(keys: &[u8], size: u64, count: u64, number: u32) {
+    let step = session::begin(keys, size, count, number);
     let r = step.refused;
     say::outcome(r);
     session(step.session);
@@ -132,12 +136,12 @@ fn close(s: Session, keys: &[u8], size: u64, shelf: &[u8], out: &mut [u8]) {
     stepped(s, r, step.session);
     wrote(out);
     if r.number == 0 {
-        compared(keys, size, shelf, out);
+        compared(keys, size, shelf, 2, out);
     }
 }
 
 // Runs the call that a number of NAMES stands for.
-fn run_into(call: usize, n: &[u64; 19], bytes: &[u8], out: &mut [u8]) {
+fn run_into(call: usize, n: &[u64; 21], bytes: &[u8], out: &mut [u8]) {
     let shelf = given::part(bytes, given::SHELF, n[given::SHELF]);
     let keys = given::part(bytes, given::KEYS, n[given::KEYS]);
     let sheet = given::part(bytes, given::SHEET, n[given::SHEET]);
@@ -163,7 +167,7 @@ fn run_into(call: usize, n: &[u64; 19], bytes: &[u8], out: &mut [u8]) {
 // The same for Fetch and the calls of a session.
 fn run_of_cards(
     call: usize,
-    n: &[u64; 19],
+    n: &[u64; 21],
     bytes: &[u8],
     keys: &[u8],
     shelf: &[u8],
@@ -174,7 +178,12 @@ fn run_of_cards(
         fetch(shelf, n[given::CARD], old);
     }
     if call == 5 {
-        begin(keys, n[given::SIZE], n[given::COUNT]);
+        begin(
+            keys,
+            n[given::SIZE],
+            n[given::COUNT],
+            given::number32(n[given::NUMBER]),
+        );
     }
     if call == 6 {
         put(sessions::given(n, bytes), old);
@@ -185,7 +194,7 @@ fn run_of_cards(
 }
 
 // Says a line, runs its call, and says what came out.
-pub fn run(line: &[u8], call: usize, n: &[u64; 19], bytes: &[u8]) {
+pub fn run(line: &[u8], call: usize, n: &[u64; 21], bytes: &[u8]) {
     let lent = room(n[given::LENT]);
     let mut out = [0xa5u8; 1400];
     say::text(line);

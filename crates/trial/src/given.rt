@@ -1,12 +1,15 @@
 // What a call is given: a number for each word of a line, and the bytes of its arguments.
 use crate::inputs;
+use crate::sheets;
+use blocks::block;
+use files::message;
 ghost use Prim.Native.Nat.{_≤_, _<_};
 ghost use lib.ListN.{length};
 
 // The words by their places among the numbers. The first five are arguments of bytes, and their numbers are lengths.
-pub const WORDS: [u8; 136] =
+pub const WORDS: [u8; 152] =
     *b"shelf   keys    sheet   old     new     size    count   card    lent    \
-    puts    taken   closed  byte    is      flip    cards   altered ";
+    puts    taken   closed  byte    is      flip    cards   altered version number  ";
 
 pub const SHELF: usize = 0;
 
@@ -42,13 +45,18 @@ const CARDS: usize = 15;
 
 const ALTERED: usize = 16;
 
+pub const VERSION: usize = 17;
+
+pub const NUMBER: usize = 18;
+
 // Behind the words: a number that is not 0 where some word was none of them, and which argument of bytes was named last.
-pub const UNKNOWN: usize = 17;
+pub const UNKNOWN: usize = 19;
 
-const LAST: usize = 18;
+const LAST: usize = 20;
 
-// Where a line does not say otherwise: a shelf of two cards, the keys, the shelf's sheet of size 1, its card 1 by the letter b.
-pub const USUAL: [u64; 19] = [
+// Where a line does not say otherwise: a shelf of two cards, the keys, the shelf's sheet of size 1, both files of version 1, its card 1 by the
+// letter b.
+pub const USUAL: [u64; 21] = [
     12,
     48,
     88,
@@ -65,6 +73,8 @@ pub const USUAL: [u64; 19] = [
     0,
     0,
     0,
+    0,
+    1,
     0,
     0,
     0,
@@ -90,12 +100,17 @@ pub fn part(bytes: &[u8], a: usize, n: u64) -> &[u8] {
     &bytes[0..0]
 }
 
-// Writes the sheet of the shelf as it is, of a size.
-fn put_sheet(bytes: &mut [u8], size: u64, n: u64)
+// Writes the sheet of the shelf as it is, of a size, in a version.
+fn put_sheet(bytes: &mut [u8], size: u64, n: u64, version: u64)
     requires { ⌜ 72192 ≤ length (now bytes) ⌝ }
 {
-    let mut sheet = [0u8; files::tagfile::MOST];
-    scheme::tag(&inputs::KEYS, size, part(bytes, SHELF, n), &mut sheet);
+    let sheet = sheets::tagged(
+        &inputs::KEYS,
+        size,
+        part(bytes, SHELF, n),
+        version,
+        [0u8; 1400],
+    );
     inputs::put(bytes, 67584, &sheet);
 }
 
@@ -107,12 +122,12 @@ pub fn put_usual(bytes: &mut [u8])
     inputs::put(bytes, 66048, &inputs::KEYS);
     inputs::put(bytes, 69120, b"a");
     inputs::put(bytes, 70656, b"b");
-    put_sheet(bytes, 1, 12);
+    put_sheet(bytes, 1, 12, 1);
 }
 
 // Sets the number of a word.
-pub fn set(n: &mut [u64; 19], w: usize, v: u64)
-    requires { ⌜ w < 18 ⌝ }
+pub fn set(n: &mut [u64; 21], w: usize, v: u64)
+    requires { ⌜ w < 20 ⌝ }
 {
     n[w] = v;
     if w < 5 {
@@ -140,12 +155,46 @@ fn alter(bytes: &mut [u8], last: u64, byte: u64, w: usize, v: u64) {
     }
 }
 
+// The last 32 bits of a number.
+pub fn number32(v: u64) -> u32 {
+    (v % 0x1_0000_0000) as u32
+}
+
+// Makes room for a number in a shelf of version 1; gives how long the shelf is then.
+fn widen(bytes: &mut [u8], n: u64) -> u64
+    requires { ⌜ 72192 ≤ length (now bytes) ⌝ }
+{
+    if bytes[4] != 1 {
+        return n;
+    }
+    let long = n % 65533;
+    inputs::move_on(bytes, 5, long as usize);
+    long + 4
+}
+
+// Gives the shelf a number: it is of version 2 then.
+fn number(n: &mut [u64; 21], bytes: &mut [u8], v: u64)
+    requires { ⌜ 72192 ≤ length (now bytes) ⌝ }
+{
+    n[SHELF] = widen(bytes, n[SHELF]);
+    inputs::put(bytes, 4, b"\x02");
+    inputs::put(bytes, 5, &block::to_be32(number32(v)));
+}
+
+// Where the first card of the shelf stands, behind its length.
+fn first_card(bytes: &[u8]) -> usize
+    requires { ⌜ 72192 ≤ length (now bytes) ⌝ }
+    ensures { λ r. ⌜ r ≤ 13 ⌝ }
+{
+    message::items_at(stamp::version_of(bytes)) + 2
+}
+
 // Makes the bytes that a word with its number stands for.
-pub fn make(n: &mut [u64; 19], bytes: &mut [u8], w: usize, v: u64)
+pub fn make(n: &mut [u64; 21], bytes: &mut [u8], w: usize, v: u64)
     requires { ⌜ 72192 ≤ length (now bytes) ⌝ }
 {
     if w == SHEET {
-        put_sheet(bytes, n[SIZE], n[SHELF]);
+        put_sheet(bytes, n[SIZE], n[SHELF], n[VERSION]);
         return;
     }
     if w == CARDS {
@@ -154,7 +203,11 @@ pub fn make(n: &mut [u64; 19], bytes: &mut [u8], w: usize, v: u64)
         return;
     }
     if w == ALTERED {
-        inputs::alter(bytes, 2, 2 + (v % 256) as usize);
+        inputs::alter(bytes, first_card(bytes), 2, 2 + (v % 256) as usize);
+        return;
+    }
+    if w == NUMBER {
+        number(n, bytes, v);
         return;
     }
     alter(bytes, n[LAST], n[BYTE], w, v);

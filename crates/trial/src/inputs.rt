@@ -44,13 +44,24 @@ pub fn put_short_cards(shelf: &mut [u8], n: usize)
     }
 }
 
-// Alters the cards a + 1 to e of such a shelf: card j then holds j + 4,096.
-pub fn alter(shelf: &mut [u8], a: usize, e: usize)
-    requires { ⌜ (7 + 4 * e ≤ length (now shelf)) × (e ≤ 273) ⌝ }
+// Moves the bytes from a place up to n on by four places.
+pub fn move_on(shelf: &mut [u8], from: usize, n: usize)
+    requires { ⌜ (n + 4 ≤ length (now shelf)) × (n ≤ 65536) ⌝ }
+{
+    let mut i = n;
+    while from < i {
+        i -= 1;
+        shelf[i + 4] = shelf[i];
+    }
+}
+
+// Alters the cards a + 1 to e of such a shelf, the first of which stands at a place: card j then holds j + 4,096.
+pub fn alter(shelf: &mut [u8], first: usize, a: usize, e: usize)
+    requires { ⌜ (first + 4 * e ≤ length (now shelf)) × (first ≤ 13) × (e ≤ 273) ⌝ }
 {
     let mut i = a;
     while i < e {
-        put_number(shelf, 9 + 4 * i, (i + 4097) as u16);
+        put_number(shelf, first + 4 * i, (i + 4097) as u16);
         i += 1;
     }
 }
@@ -67,14 +78,16 @@ pub fn most_cards(code: u64) -> usize
     }
 }
 
-// Document 01, the two files: how long a size's sheet is.
+// Document 02, 2.3: how long a size's sheet of version 2 is, and where its tags start.
 pub fn sheet_length(code: u64) -> usize
-    ensures { λ r. ⌜ (24 ≤ r) × (r ≤ 1336) ⌝ }
+    ensures { λ r. ⌜ (92 ≤ r) × (r ≤ 1340) ⌝ }
 {
     match code {
-        1 => 88,
-        2 => 184,
-        3 => 472,
-        _ => 1336,
+        1 => 92,
+        2 => 188,
+        3 => 476,
+        _ => 1340,
     }
 }
+
+pub const TAGS_AT: usize = 12;

@@ -27,7 +27,7 @@ fn same_sums(s: Session, t: Session) -> bool {
 }
 
 pub fn same(s: Session, t: Session) -> bool {
-    if s.code != t.code || s.count != t.count || s.taken != t.taken {
+    if s.number != t.number || s.code != t.code || s.count != t.count || s.taken != t.taken {
         return false;
     }
     same_keys(s, t) && same_sums(s, t)
@@ -42,6 +42,7 @@ pub fn closed(s: Session) -> bool {
         seal: zero,
     };
     let none = Session {
+        number: 0,
         code: 0,
         count: 0,
         taken: 0,

@@ -6,3 +6,4 @@ pub mod judge;
 pub mod line;
 pub mod say;
 pub mod sessions;
+mod sheets;

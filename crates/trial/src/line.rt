@@ -1,9 +1,11 @@
 // A line: the name of a call, then words, each with a number behind it, all apart by one space. What they say is done in their order.
 //
 //     shelf N, keys N, old N, new N   that argument's first N bytes are given, zeros behind those that it has
-//     sheet N                         the same of the sheet of the shelf as it is by then, for the size given by then
+//     sheet N                         the same of the sheet of the shelf as it is by then, for the size and in the version given by then
 //     byte P is V, byte P flip V      the byte P of the argument named last is V, or has the bits of V flipped
 //     size N, count N, card N         the size code, a session's count, a card number
+//     version N                       the version of a sheet: 1 where a line does not say otherwise
+//     number N                        the shelf as it is by then is of version 2 and has the number N, which a session is also begun with
 //     lent N                          how many bytes are lent, at most 1,400
 //     puts N, taken N, closed 1       of a session: so many cards of the shelf were put, then the field is overwritten, then it was closed
 //     cards N                         the shelf is one of N cards of two bytes, each with its number
@@ -63,12 +65,12 @@ fn place_in(list: &[u8], n: usize, w: &[u8]) -> usize
 }
 
 // Does what the word and the number at a place say; gives the place behind them.
-fn step(line: &[u8], at: usize, n: &mut [u64; 19], bytes: &mut [u8]) -> usize
+fn step(line: &[u8], at: usize, n: &mut [u64; 21], bytes: &mut [u8]) -> usize
     requires { ⌜ (at < length (now line)) × (72192 ≤ length (now bytes)) ⌝ }
     ensures { λ r. ⌜ (at < r) × (r ≤ length (now (line .entry))) ⌝ }
 {
     let from = behind(line, at);
-    let w = place_in(&given::WORDS, 17, word(line, at));
+    let w = place_in(&given::WORDS, 19, word(line, at));
     let p = numbers::number_in(word(line, from));
     given::set(n, w, p.value);
     given::make(n, bytes, w, p.value);
@@ -76,7 +78,7 @@ fn step(line: &[u8], at: usize, n: &mut [u64; 19], bytes: &mut [u8]) -> usize
 }
 
 // Does what the words from a place on say.
-fn steps(line: &[u8], from: usize, n: &mut [u64; 19], bytes: &mut [u8])
+fn steps(line: &[u8], from: usize, n: &mut [u64; 21], bytes: &mut [u8])
     requires { ⌜ (from ≤ length (now line)) × (72192 ≤ length (now bytes)) ⌝ }
 {
     let mut at = from;

@@ -32,10 +32,15 @@ fn with_taken(s: Session, taken: u64) -> Session {
 }
 
 // The session that put and close are called of.
-pub fn given(n: &[u64; 19], bytes: &[u8]) -> Session {
+pub fn given(n: &[u64; 21], bytes: &[u8]) -> Session {
     let keys = given::part(bytes, given::KEYS, n[given::KEYS]);
     let shelf = given::part(bytes, given::SHELF, n[given::SHELF]);
-    let step = session::begin(keys, n[given::SIZE], n[given::COUNT]);
+    let step = session::begin(
+        keys,
+        n[given::SIZE],
+        n[given::COUNT],
+        given::number32(n[given::NUMBER]),
+    );
     let put = put_cards(step.session, shelf, n[given::PUTS]);
     let s = with_taken(put, n[given::TAKEN]);
     if n[given::CLOSED] == 0 {

@@ -4,10 +4,10 @@ use Rattle.gtm.proofs.cards.append_files.Statement.{statement}
 use Rattle.gtm.proofs.cards.append_files.Tie as tie
 
 abbrev Inv-loop : tie.InvT-loop
-Inv-loop file₀ count n₀ i₀ file n i = (3 ≤ i) × (n ≤ length file) × (length file ≡ length file₀)
+Inv-loop file₀ size first count n₀ i₀ file n i = (first ≤ i) × (n ≤ length file) × (length file ≡ length file₀)
 
 abbrev μ-loop : tie.MeasureT-loop
-μ-loop file₀ count n₀ i₀ file n i = count - i
+μ-loop file₀ size first count n₀ i₀ file n i = count - i
 
 pub append-files-spec : {M : Type 1} → statement M
 append-files-spec =

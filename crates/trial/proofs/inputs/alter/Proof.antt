@@ -4,10 +4,10 @@ use Rattle.trial.proofs.inputs.alter.Statement.{statement}
 use Rattle.trial.proofs.inputs.alter.Tie as tie
 
 abbrev Inv-loop : tie.InvT-loop
-Inv-loop shelf₀ a e i₀ shelf i = length shelf ≡ length shelf₀
+Inv-loop shelf₀ first a e i₀ shelf i = length shelf ≡ length shelf₀
 
 abbrev μ-loop : tie.MeasureT-loop
-μ-loop shelf₀ a e i₀ shelf i = e - i
+μ-loop shelf₀ first a e i₀ shelf i = e - i
 
 pub alter-spec : {M : Type 1} → statement M
 alter-spec =
