@@ -1,34 +1,47 @@
 /* Tags for a recipe shelf: what the hopper firmware calls.
  *
- * A shelf (message file) is tagged once; the sheet (tag file) is kept beside it. Later the shelf is verified against its sheet, or a report
- * says which cards were altered, and a single card's share of the tags is replaced without reading the others.
+ * A shelf (message file) is tagged once; the sheet (tag file) is kept beside it. Later the shelf is verified against
+ * its sheet, or a report says which cards were altered, and a single card's share of the tags is replaced without
+ * reading the others.
  *
- * Any pointer that a length of 0 goes with may be null. Otherwise a pointer has to be valid for its length; nothing else is asked of
- * a caller: any bytes, lengths and numbers may be handed over. The buffer that a call writes must not overlap another; those that it only
- * reads may lie in one another. The functions keep nothing between calls, allocate nothing and do not block.
+ * A shelf has a number, 0 to 4,294,967,295, which its sheet repeats: a sheet of another shelf is told by it and
+ * refused, even where keys and count are the same. Both files carry it from version 2 on. Version 1 is still read and
+ * counts as number 0, so the two files may be of different versions. gtm_tag writes sheets of version 2; gtm_replace
+ * keeps the version and the number of the sheet that it is given.
+ *
+ * Any pointer that a length of 0 goes with may be null. Otherwise a pointer has to be valid for its length; nothing
+ * else is asked of a caller: any bytes, lengths and numbers may be handed over. The buffer that a call writes must not
+ * overlap another; those that it only reads may lie in one another. The functions keep nothing between calls, allocate
+ * nothing and do not block.
  *
  * Each returns one number. gtm_number() of it is 0 when the call did its work, else the number of a refusal:
  *
- *   1  keys not 48 bytes (card key, tag key and seal key, 16 each)                          all calls
- *   2  size not 1 to 4                                                                      gtm_tag
- *   3  shelf under 7 or over 65,536 bytes, or wrong letters or version                      gtm_tag, gtm_verify, gtm_report
- *   4  count 0 or above the cards of the size                                               gtm_tag
- *   5  a card too long or running past the end, or bytes left over (place: the first such card, or count + 1)   as 3
- *   6  not a sheet: length, letters, version, size or count                                 gtm_verify, gtm_report, gtm_replace
- *   7  the buffer lent is shorter than the output                                           gtm_tag, gtm_report, gtm_replace
- *   8  card number 0 or above the sheet's count                                             gtm_replace
- *   9  handed card over 1,024 bytes (place: 1 old, 2 new)                                   gtm_replace
- *  20  the sheet's seal differs: another key, or altered                                    gtm_verify, gtm_report, gtm_replace
- *  21  shelf and sheet have different counts                                                gtm_verify, gtm_report
+ *   1  keys not 48 bytes (card key, tag key and seal key, 16 each)                  all calls
+ *   2  size not 1 to 4                                                              gtm_tag
+ *   3  shelf under 7 bytes (version 2: 11) or over 65,536, or wrong letters,
+ *      or a version that is not 1 or 2                                              gtm_tag, gtm_verify, gtm_report
+ *   4  count 0 or above the cards of the size                                       gtm_tag
+ *   5  a card too long or running past the end, or bytes left over
+ *      (place: the first such card, or count + 1)                                   gtm_tag, gtm_verify, gtm_report
+ *   6  not a sheet: letters, version, size, count, or another length than
+ *      version and size ask for                                                     gtm_verify, gtm_report, gtm_replace
+ *   7  the buffer lent is shorter than the output: a sheet of version 2, a byte
+ *      for each card, or a sheet as long as the one given                           gtm_tag, gtm_report, gtm_replace
+ *   8  card number 0 or above the sheet's count                                     gtm_replace
+ *   9  handed card over 1,024 bytes (place: 1 old, 2 new)                           gtm_replace
+ *  20  the sheet's seal differs: another key, or altered                            gtm_verify, gtm_report, gtm_replace
+ *  21  shelf and sheet have different counts                                        gtm_verify, gtm_report
+ *  25  shelf and sheet have different shelf numbers: the sheet of another shelf     gtm_verify, gtm_report
  *
- * The first that applies is returned, in this order: gtm_tag 1 2 3 4 5 7; gtm_verify 1 3 5 6 20 21; gtm_report the same, then 7; gtm_replace
- * 1 6 20 8 9 7. A refused call writes nothing. One that is done writes its output to the front of the buffer, and the bytes behind stay.
+ * The first that applies is returned, in this order: gtm_tag 1 2 3 4 5 7; gtm_verify 1 3 5 6 20 21 25; gtm_report the
+ * same, then 7; gtm_replace 1 6 20 8 9 7. A refused call writes nothing. One that is done writes its output to the
+ * front of the buffer, and the bytes behind stay.
  *
- *   size   cards up to   sheet, bytes   altered cards named exactly, up to
- *   1      7             88             2
- *   2      21            184            4
- *   3      73            472            8
- *   4      273           1,336          16
+ *   size   cards up to   sheet, bytes (version 1)   altered cards named exactly, up to
+ *   1      7             92     (88)                2
+ *   2      21            188    (184)               4
+ *   3      73            476    (472)               8
+ *   4      273           1,340  (1,336)             16
  */
 #ifndef GTM_H
 #define GTM_H
@@ -41,10 +54,10 @@ extern "C" {
 #endif
 
 /* The longest sheet and the most marks, for buffers that serve every size. */
-#define GTM_SHEET_MAX 1336
+#define GTM_SHEET_MAX 1340
 #define GTM_CARDS_MAX 273
 
-/* Writes the sheet of a shelf. */
+/* Writes the sheet of a shelf, in version 2. */
 uint64_t gtm_tag(const uint8_t *keys, size_t keys_len, uint64_t size, const uint8_t *shelf, size_t shelf_len, uint8_t *sheet,
                  size_t sheet_len);
 
@@ -57,7 +70,8 @@ uint64_t gtm_verify(const uint8_t *keys, size_t keys_len, const uint8_t *shelf, 
 uint64_t gtm_report(const uint8_t *keys, size_t keys_len, const uint8_t *shelf, size_t shelf_len, const uint8_t *sheet,
                     size_t sheet_len, uint8_t *marks, size_t marks_len);
 
-/* Writes the sheet for the shelf with one card replaced. The old card has to be the one that was tagged: another goes unnoticed. */
+/* Writes the sheet for the shelf with one card replaced, as long as the one given and of its version. The old card has
+ * to be the one that was tagged: another goes unnoticed. */
 uint64_t gtm_replace(const uint8_t *keys, size_t keys_len, const uint8_t *sheet, size_t sheet_len, uint64_t number, const uint8_t *old_card,
                      size_t old_len, const uint8_t *new_card, size_t new_len, uint8_t *out, size_t out_len);
 

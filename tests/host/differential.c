@@ -1,7 +1,8 @@
-/* Differential test: random calls through the C interface, answered by the library and by the second implementation.
+/* Differential test: calls through the C interface, answered by the library and by the second implementation.
  *
  *     differential [count [seed [case]]]
  *
+ * The first cases are listed ones, about versions, heads and the room for a sheet, whose cards are random; the others are random altogether.
  * Every buffer handed over lies against a page that may not be touched, in front of it or behind it. Compared are the result, every byte of the
  * lent buffer, the bytes around it, and that no input was changed. A case depends on the seed and its own number alone, so that a third argument runs
  * a single case again. */
@@ -93,7 +94,13 @@ static void check_part(const struct part *p)
         }
 }
 
-static struct draft cards; /* what the shelf was made of */
+static struct draft cards;     /* what the shelf was made of */
+static unsigned sheet_version; /* of the sheet, before damage */
+
+static size_t sheet_head(void)
+{
+    return sheet_version == 1 ? 8 : 12;
+}
 
 /* ---- Damage ---- */
 
@@ -103,19 +110,37 @@ static void reseal(void)
         second_cmac(keys.bytes + 32, sheet.bytes, sheet.len - 16, sheet.bytes + sheet.len - 16);
 }
 
+/* The same sheet laid out in the other version, with or without a number; its codes stay what they were. */
+static void change_layout(uint32_t number)
+{
+    uint8_t *b = sheet.bytes;
+    if (sheet_version == 1) {
+        memmove(b + 9, b + 5, sheet.len - 5);
+        put_four(b + 5, number);
+        sheet.len += 4;
+    } else {
+        memmove(b + 5, b + 9, sheet.len - 9);
+        sheet.len -= 4;
+    }
+    put_two(b + 3, 3 - sheet_version);
+}
+
 static void damage_sheet(void)
 {
     const struct plane *p = &planes[cards.size];
-    uint8_t *b = sheet.bytes, *tags = b + 8, tag[16];
+    size_t head = sheet_head();
+    uint8_t *b = sheet.bytes, *tags = b + head, tag[16];
     unsigned size = cards.size, count = cards.count, x = below(p->tags), y = below(p->tags), other = 1 + below(4);
     const unsigned counts[] = {0, p->cards, p->cards + 1, count - 1, count + 1, count + 256, below(65536), 65535};
     const unsigned codes[] = {0, 5, 255, other, 128 + size, below(256)};
-    const unsigned lengths[] = {0, 1, 7, 15, 16, 23, 24, 40, (unsigned)sheet.len - 1, (unsigned)sheet.len - 16, below((unsigned)sheet.len)};
+    const unsigned lengths[] = {0, 1, 7, 15, 16, 23, 24, 27, 28, 40, (unsigned)sheet.len - 1, (unsigned)sheet.len - 4, (unsigned)sheet.len - 16,
+                                below((unsigned)head + 5), below((unsigned)sheet.len)};
+    const uint32_t numbers[] = {cards.number, another_number(cards.number), some_number()};
     int seal = !one_in(5);
-    switch (below(14)) {
+    switch (below(18)) {
     case 0: flip(b, sheet.len); return;
     case 1: flip(b + sheet.len - 16, 16); return;
-    case 2: fill(b + 8, sheet.len - 8); return;
+    case 2: fill(b + head, sheet.len - head); return;
     case 3: flip(tags, 16 * p->tags); break;
     case 4: fill(tags, 16 * p->tags); break;
     case 5:
@@ -124,26 +149,35 @@ static void damage_sheet(void)
         memcpy(tags + 16 * y, tag, 16);
         break;
     case 6: b[below(5)] ^= (uint8_t)(1 + below(255)); break;
-    case 7: b[5] = (uint8_t)codes[below(COUNT(codes))]; break;
-    case 8: put_two(b + 6, counts[below(COUNT(counts))]); break;
+    case 7: b[head - 3] = (uint8_t)codes[below(COUNT(codes))]; break;
+    case 8: put_two(b + head - 2, counts[below(COUNT(counts))]); break;
     case 9: sheet.len = lengths[below(COUNT(lengths))]; break;
     case 10:
-        x = one_in(2) ? 1 + below(40) : 16 * (1 + below(100));
+        x = one_in(3) ? 4 : one_in(2) ? 1 + below(40) : 16 * (1 + below(100));
         fill(b + sheet.len, x);
         sheet.len += x;
         break;
     case 11: /* a sheet of another size, of this shelf or of none */
-        sheet.len = 24 + 16 * planes[other].tags;
-        if (second_tag(keys.bytes, 48, other, shelf.bytes, shelf.len, b, sheet.len).number != 0) {
-            memcpy(b, "TBT\0\1", 5);
-            b[5] = (uint8_t)other;
-            put_two(b + 6, count);
-            fill(tags, sheet.len - 8);
+        sheet.len = second_sheet_len(sheet_version, other);
+        if (second_tag_in(sheet_version, keys.bytes, 48, other, shelf.bytes, shelf.len, b, sheet.len).number != 0) {
+            memcpy(b, "TBT", 3);
+            put_two(b + 3, sheet_version);
+            if (sheet_version == 2)
+                put_four(b + 5, cards.number);
+            b[head - 3] = (uint8_t)other;
+            put_two(b + head - 2, count);
+            fill(tags, sheet.len - head);
         }
         break;
     case 12: /* sealed with another of the keys */
         second_cmac(keys.bytes + 16 * below(2), b, sheet.len - 16, b + sheet.len - 16);
         return;
+    case 13: put_two(b + 3, label(below(2 * FIXED_LABELS))); break;
+    case 14: put_two(b + 3, 3 - sheet_version); break;
+    case 15: change_layout(numbers[below(COUNT(numbers))]); break;
+    case 16: /* another number; in version 1 its bytes are others */
+        put_four(b + 5, numbers[below(COUNT(numbers))]);
+        break;
     default: sheet.len = 0; return;
     }
     if (seal)
@@ -165,7 +199,8 @@ static void damage_keys(void)
 static void lend_output(size_t len)
 {
     size_t less = len ? len - 1 : 0;
-    const size_t lengths[] = {len, len, len, len, len + 1, len + below(100), len + below(3000), less, below((unsigned)less + 1), 0};
+    const size_t lengths[] = {len, len, len, len, len, len + 1, len + below(100), len + below(3000), less, below((unsigned)less + 1), 0,
+                              len + below(9) - (len < 4 ? 0 : 4)}; /* the two versions of a sheet are 4 bytes apart */
     out.len = lengths[below(COUNT(lengths))];
     fill(out.bytes, out.len);
 }
@@ -175,6 +210,8 @@ static void lend_output(size_t len)
 enum call { TAG, VERIFY, REPORT, REPLACE };
 static const char *const call_names[] = {"tag", "verify", "report", "replace"};
 static unsigned long seen[4][256], answers[3], verdicts[2], left_over, bad_cards, long_old, long_new;
+static unsigned long mixes[4][3][3], refused_mixes[3][3]; /* done, and refused by 25: by the versions of shelf and sheet, 0 where there is none */
+static unsigned long one_byte, sealed_first, counted_first; /* 25 for one byte; 20 and 21 where the numbers differ too */
 
 static uint64_t some_size_code(void)
 {
@@ -201,9 +238,28 @@ static void some_card(struct part *p)
     fill(p->bytes, p->len);
 }
 
+/* Counts what the versions and numbers of the files had to do with the outcome. */
+static void count_versions(enum call call, unsigned number)
+{
+    if (number == 0 && call == REPLACE) {
+        mixes[call][0][sheet.bytes[4]]++;
+    } else if (number == 0) {
+        mixes[call][shelf.bytes[4]][call == TAG ? 0 : sheet.bytes[4]]++;
+    } else if (number == 25) {
+        uint32_t difference = second_number(shelf.bytes) ^ second_number(sheet.bytes), byte = 255;
+        refused_mixes[shelf.bytes[4]][sheet.bytes[4]]++;
+        for (; byte != 0; byte <<= 8)
+            one_byte += (difference & ~byte) == 0;
+    } else if ((number == 20 || number == 21) && call != REPLACE) {
+        if (second_number(shelf.bytes) != second_number(sheet.bytes))
+            *(number == 20 ? &sealed_first : &counted_first) += 1;
+    }
+}
+
 static void compare(enum call call, uint64_t library, struct result second)
 {
     seen[call][second.number & 255]++;
+    count_versions(call, second.number);
     if (gtm_number(library) != second.number)
         differs("number", gtm_number(library), second.number);
     if (second.number != 0) {
@@ -226,7 +282,7 @@ static void compare(enum call call, uint64_t library, struct result second)
         check_part(all_parts[i]);
 }
 
-/* The second implementation against itself: a card replaced is the shelf tagged afresh. */
+/* The second implementation against itself: a card replaced is the shelf tagged afresh, in the sheet's version. */
 static void check_replaced(unsigned number)
 {
     static uint8_t fresh[GTM_SHEET_MAX];
@@ -235,68 +291,256 @@ static void check_replaced(unsigned number)
     shelf.len = write_shelf(&cards, shelf.bytes);
     if (shelf.len > 65536)
         return;
-    second_tag(keys.bytes, 48, cards.size, shelf.bytes, shelf.len, fresh, sizeof fresh);
+    second_tag_in(sheet_version, keys.bytes, 48, cards.size, shelf.bytes, shelf.len, fresh, sizeof fresh);
     if (memcmp(fresh, out.bytes, sheet.len) != 0)
         differs("replaced and tagged afresh", 0, 0);
 }
 
-static void run_case(void)
-{
-    enum call call = (enum call)below(4);
-    unsigned number = 0;
-    uint64_t code = 0, library;
-    struct result second;
-    int honest = 0; /* a replacement that should equal tagging afresh */
+/* ---- The listed cases ---- */
 
-    where_len = (size_t)snprintf(where, sizeof where, "seed %llu case %llu call %s", (unsigned long long)seed,
-                                 (unsigned long long)case_number, call_names[call]);
-    for (size_t i = 0; i < COUNT(all_parts); i++)
-        all_parts[i]->len = 0;
+enum about { SHELF_CUT, SHELF_LABEL, SHEET_CUT, SHEET_LABEL, SHEET_LENGTH, LENT, NUMBERS, NUMBERS_AND_SEAL, NUMBERS_AND_COUNT, NUMBERS_AND_ROOM };
+
+/* A call on files of those versions, and what it is about. Sizes, numbers and cards that are not given are random. */
+struct plan {
+    enum call call;
+    unsigned shelf_version, sheet_version;
+    enum about about;
+    unsigned value;      /* a length, or the version said; for SHEET_LENGTH and LENT how many bytes are too many, plus 100 */
+    unsigned size;       /* 0 for any */
+    uint32_t numbers[2]; /* of shelf and sheet */
+};
+
+static struct plan plans[2000];
+static size_t plan_count;
+
+static void list(struct plan plan)
+{
+    if (plan_count == COUNT(plans)) {
+        printf("more cases are listed than there is room for\n");
+        exit(1);
+    }
+    plans[plan_count++] = plan;
+}
+
+/* The same for every call that is handed such a file, in every mix of versions. */
+static void list_calls(struct plan plan)
+{
+    int of_shelf = plan.about == SHELF_CUT || plan.about == SHELF_LABEL;
+    for (int call = TAG; call <= REPLACE; call++)
+        for (unsigned a = 1; a <= 2; a++)
+            for (unsigned b = 1; b <= 2; b++) {
+                if ((call == TAG && (!of_shelf || b == 1)) || (call == REPLACE && (of_shelf || a == 1)))
+                    continue;
+                plan.call = (enum call)call;
+                plan.shelf_version = a;
+                plan.sheet_version = b;
+                list(plan);
+            }
+}
+
+static void list_numbers(uint32_t a, uint32_t b)
+{
+    for (int call = VERIFY; call <= REPORT; call++)
+        for (int about = NUMBERS; about <= NUMBERS_AND_ROOM; about++) {
+            list((struct plan){(enum call)call, 2, 2, (enum about)about, .numbers = {a, b}});
+            if (a == 0)
+                list((struct plan){(enum call)call, 1, 2, (enum about)about, .numbers = {a, b}});
+            if (b == 0)
+                list((struct plan){(enum call)call, 2, 1, (enum about)about, .numbers = {a, b}});
+            if (a == 0 && b == 0)
+                list((struct plan){(enum call)call, 1, 1, (enum about)about, .numbers = {a, b}});
+        }
+}
+
+static void list_all(void)
+{
+    static const uint32_t pairs[][2] = {{0, 0}, {5, 5}, {0xffffffff, 0xffffffff}, {0, 1}, {1, 0}, {5, 0}, {0, 0xffffffff}, {0xffffffff, 0},
+                                        {5, 6}, {0x05000000, 5}, {0x01020304, 0x04030201}, {0x01020304, 0x01020305}, {0x01020304, 0x01020404},
+                                        {0x01020304, 0x01030304}, {0x01020304, 0x02020304}, {0xffffffff, 0x7fffffff}};
+    static const unsigned lengths[] = {84, 96, 99, 101, 104, 116};
+    for (unsigned len = 0; len <= 16; len++) { /* each head and four bytes more */
+        list_calls((struct plan){.about = SHELF_CUT, .value = len});
+        list_calls((struct plan){.about = SHEET_CUT, .value = len});
+    }
+    for (unsigned which = 0; which < FIXED_LABELS; which++) {
+        list_calls((struct plan){.about = SHELF_LABEL, .value = label(which)});
+        list_calls((struct plan){.about = SHEET_LABEL, .value = label(which)});
+    }
+    for (size_t i = 0; i < COUNT(lengths); i++)
+        list_calls((struct plan){.about = SHEET_LENGTH, .value = lengths[i]});
+    for (unsigned size = 1; size <= 4; size++)
+        for (unsigned version = 1; version <= 2; version++)
+            for (unsigned more = 94; more <= 103; more++) {
+                list((struct plan){TAG, version, 2, LENT, more, size, {0}});
+                list((struct plan){REPLACE, version, version, LENT, more, size, {0}});
+            }
+    for (size_t i = 0; i < COUNT(pairs); i++)
+        list_numbers(pairs[i][0], pairs[i][1]);
+}
+
+/* ---- A case ---- */
+
+/* What a call is handed beside its buffers, and what is expected of it. */
+struct chosen {
+    enum call call;
+    uint64_t said;   /* size code or card number */
+    unsigned number; /* the card replaced */
+    int honest;      /* a replacement that should equal tagging afresh */
+};
+
+static void make_keys(void)
+{
     keys.len = 48;
     fill(keys.bytes, 48);
     if (one_in(20))
         memset(keys.bytes, one_in(2) ? 0 : keys.bytes[0], 48);
-    make_shelf(&cards);
-    shelf.len = write_shelf(&cards, shelf.bytes);
+}
 
-    size_t sheet_len = 24 + 16 * planes[cards.size].tags;
-    if (call == TAG) {
-        code = some_size_code();
-    } else {
-        sheet.len = sheet_len;
-        second = second_tag(keys.bytes, 48, cards.size, shelf.bytes, shelf.len, sheet.bytes, sheet.len);
-        if (second.number != 0)
-            differs("making a sheet", 0, second.number);
+static void lay_out(void)
+{
+    shelf.len = write_shelf(&cards, shelf.bytes);
+}
+
+static void make_sheet(void)
+{
+    sheet.len = second_sheet_len(sheet_version, cards.size);
+    unsigned number = second_tag_in(sheet_version, keys.bytes, 48, cards.size, shelf.bytes, shelf.len, sheet.bytes, sheet.len).number;
+    if (number != 0)
+        differs("making a sheet", 0, number);
+}
+
+/* A card of the shelf as the old one. */
+static void choose_card(struct chosen *c)
+{
+    c->number = 1 + below(cards.count);
+    c->said = c->number;
+    c->honest = 1;
+    old_card.len = cards.len[c->number];
+    memcpy(old_card.bytes, cards.card[c->number], old_card.len);
+}
+
+static struct chosen listed_case(const struct plan *p)
+{
+    struct chosen c = {.call = p->call};
+    cards.size = p->size ? p->size : 1 + below(4);
+    cards.count = 1 + below(planes[cards.size].cards);
+    cards.version = p->shelf_version;
+    cards.number = p->about >= NUMBERS ? p->numbers[1] : p->shelf_version == 2 && p->sheet_version == 2 ? some_number() : 0;
+    if (cards.number != 0)
+        cards.version = 2;
+    sheet_version = p->sheet_version;
+    make_cards(&cards, below(3));
+    lay_out();
+    c.said = cards.size;
+    if (c.call != TAG)
+        make_sheet();
+    if (c.call == REPLACE) {
+        choose_card(&c);
+        new_card.len = some_length(below(3));
+        fill(new_card.bytes, new_card.len);
     }
-    if (call == REPLACE) {
-        number = 1 + below(cards.count);
-        code = some_card_number(number);
-        old_card.len = cards.len[number];
-        memcpy(old_card.bytes, cards.card[number], old_card.len);
+    out.len = c.call == VERIFY ? 0 : c.call == REPORT ? cards.count : second_sheet_len(sheet_version, cards.size);
+    switch (p->about) {
+    case SHELF_CUT:
+        if (p->value < shelf.len)
+            shelf.len = p->value;
+        break;
+    case SHELF_LABEL: put_two(shelf.bytes + 3, p->value); break;
+    case SHEET_CUT:
+        sheet.len = p->value;
+        c.honest = 0;
+        break;
+    case SHEET_LABEL:
+        put_two(sheet.bytes + 3, p->value);
+        reseal();
+        c.honest = 0;
+        break;
+    case SHEET_LENGTH:
+        fill(sheet.bytes + sheet.len, 16);
+        sheet.len = sheet.len + p->value - 100;
+        reseal();
+        c.honest = 0;
+        break;
+    case LENT: out.len = second_sheet_len(2, cards.size) + p->value - 100; break;
+    default: /* the sheet is that of the second number */
+        cards.version = p->shelf_version;
+        cards.number = p->numbers[0];
+        if (p->about == NUMBERS_AND_COUNT)
+            change_count(&cards);
+        else if (p->about == NUMBERS_AND_SEAL)
+            flip(sheet.bytes + sheet.len - 16, 16);
+        else if (p->about == NUMBERS_AND_ROOM && out.len)
+            out.len--;
+        lay_out();
+        break;
+    }
+    fill(out.bytes, out.len);
+    return c;
+}
+
+static struct chosen random_case(void)
+{
+    struct chosen c = {.call = (enum call)below(4)};
+    int recounted = 0;
+    make_shelf(&cards);
+    lay_out();
+    sheet_version = cards.number != 0 && !one_in(8) ? 2 : 1 + below(2); /* one of version 1 is for number 0 alone */
+    if (c.call == TAG)
+        c.said = some_size_code();
+    else
+        make_sheet();
+    if (c.call == REPLACE) {
+        choose_card(&c);
+        c.said = some_card_number(c.number);
+        c.honest = c.said == c.number;
         some_card(&new_card);
-        honest = code == number;
         if (one_in(3)) {
             some_card(&old_card);
-            honest = 0;
+            c.honest = 0;
         }
-    } else if (call != TAG) {
+    } else if (c.call != TAG) {
         alter_cards(&cards, keys.bytes, how_many(&cards));
-        shelf.len = write_shelf(&cards, shelf.bytes);
+        choose_version(&cards);
+        if (one_in(8)) {
+            renumber(&cards);
+            recounted = one_in(4);
+            if (sheet_version == 2 && one_in(4)) { /* the sheet says that number too, but its codes are of the first */
+                put_four(sheet.bytes + 5, cards.number);
+                reseal();
+            }
+        }
+        if (recounted)
+            change_count(&cards);
+        lay_out();
     }
-    if (call != TAG && one_in(5)) {
+    if (c.call != TAG && one_in(5)) {
         damage_sheet();
-        honest = 0;
+        c.honest = 0;
     }
-    if (call != REPLACE && one_in(5))
+    if (c.call != REPLACE && !recounted && one_in(5))
         shelf.len = damage_shelf(&cards, shelf.bytes, shelf.len);
-    if (call != VERIFY)
-        lend_output(call == REPORT ? cards.count : sheet_len);
+    if (c.call != VERIFY)
+        lend_output(c.call == REPORT ? cards.count : second_sheet_len(c.call == TAG ? 2 : sheet_version, cards.size));
     if (one_in(12)) {
         damage_keys();
-        honest = 0;
+        c.honest = 0;
     }
+    return c;
+}
 
-    if (call == REPLACE) /* it sees no shelf */
+static void run_case(void)
+{
+    uint64_t library;
+    struct result second;
+
+    where_len = (size_t)snprintf(where, sizeof where, "seed %llu case %llu", (unsigned long long)seed, (unsigned long long)case_number);
+    for (size_t i = 0; i < COUNT(all_parts); i++)
+        all_parts[i]->len = 0;
+    make_keys();
+    struct chosen c = case_number <= plan_count ? listed_case(&plans[case_number - 1]) : random_case();
+    where_len += (size_t)snprintf(where + where_len, sizeof where - where_len, " call %s", call_names[c.call]);
+
+    if (c.call == REPLACE) /* it sees no shelf */
         shelf.len = 0;
     for (size_t i = 0; i < COUNT(all_parts); i++)
         lend(all_parts[i]);
@@ -304,17 +548,17 @@ static void run_case(void)
     /* Buffers that are only read may overlap: now and then the new card lies in the old one's memory. */
     const uint8_t *new_lent = new_card.lent;
     size_t new_len = new_card.len;
-    if (call == REPLACE && one_in(8)) {
+    if (c.call == REPLACE && one_in(8)) {
         new_len = old_card.len ? below((unsigned)old_card.len + 1) : 0;
         new_lent = old_card.lent + (old_card.len - new_len);
-        honest = 0;
+        c.honest = 0;
     }
 
     /* The second implementation reads the same guarded inputs, first; its output is what is expected. */
-    switch (call) {
+    switch (c.call) {
     case TAG:
-        second = second_tag(keys.lent, keys.len, code, shelf.lent, shelf.len, out.bytes, out.len);
-        library = gtm_tag(keys.lent, keys.len, code, shelf.lent, shelf.len, out.lent, out.len);
+        second = second_tag(keys.lent, keys.len, c.said, shelf.lent, shelf.len, out.bytes, out.len);
+        library = gtm_tag(keys.lent, keys.len, c.said, shelf.lent, shelf.len, out.lent, out.len);
         break;
     case VERIFY:
         second = second_verify(keys.lent, keys.len, shelf.lent, shelf.len, sheet.lent, sheet.len);
@@ -325,28 +569,40 @@ static void run_case(void)
         library = gtm_report(keys.lent, keys.len, shelf.lent, shelf.len, sheet.lent, sheet.len, out.lent, out.len);
         break;
     default:
-        second = second_replace(keys.lent, keys.len, sheet.lent, sheet.len, code, old_card.lent, old_card.len, new_lent, new_len,
+        second = second_replace(keys.lent, keys.len, sheet.lent, sheet.len, c.said, old_card.lent, old_card.len, new_lent, new_len,
                                 out.bytes, out.len);
-        library = gtm_replace(keys.lent, keys.len, sheet.lent, sheet.len, code, old_card.lent, old_card.len, new_lent, new_len,
+        library = gtm_replace(keys.lent, keys.len, sheet.lent, sheet.len, c.said, old_card.lent, old_card.len, new_lent, new_len,
                               out.lent, out.len);
         break;
     }
-    compare(call, library, second);
-    if (second.number == 5) {
-        unsigned said = shelf.bytes[5] * 256u + shelf.bytes[6];
-        *(second.place == said + 1 ? &left_over : &bad_cards) += 1;
-    }
+    compare(c.call, library, second);
+    if (second.number == 5)
+        *(second.place == second_count(shelf.bytes) + 1 ? &left_over : &bad_cards) += 1;
     if (second.number == 9)
         *(second.place == 1 ? &long_old : &long_new) += 1;
-    if (honest && second.number == 0)
-        check_replaced(number);
+    if (c.honest && second.number == 0)
+        check_replaced(c.number);
+}
+
+/* Prints the counts of some pairs of versions, two digits each; returns how many are 0. */
+static int print_mixes(const char *name, unsigned long by[3][3], const char *pairs)
+{
+    int missing = 0;
+    printf("  %s:", name);
+    for (; *pairs != 0; pairs += 2) {
+        unsigned long n = by[pairs[0] - '0'][pairs[1] - '0'];
+        printf(" %c-%c %lu", pairs[0], pairs[1], n);
+        missing += n == 0;
+    }
+    printf("\n");
+    return missing;
 }
 
 /* Prints how often each outcome was seen; returns how many that a call can give were not. */
 static int print_table(void)
 {
-    static const uint8_t numbers[] = {0, 1, 2, 3, 4, 5, 6, 7, 8, 9, 20, 21};
-    static const char *const possible[] = {"\1\2\3\4\5\7", "\1\3\5\6\24\25", "\1\3\5\6\24\25\7", "\1\6\24\10\11\7"};
+    static const uint8_t numbers[] = {0, 1, 2, 3, 4, 5, 6, 7, 8, 9, 20, 21, 25};
+    static const char *const possible[] = {"\1\2\3\4\5\7", "\1\3\5\6\24\25\31", "\1\3\5\6\24\25\31\7", "\1\6\24\10\11\7"};
     int missing = 0;
     printf("%-8s%7s", "call", "done");
     for (size_t i = 1; i < COUNT(numbers); i++)
@@ -367,7 +623,15 @@ static int print_table(void)
     printf("report: intact %lu, named %lu, beyond %lu; verify: yes %lu, no %lu\n", answers[0], answers[1], answers[2], verdicts[1],
            verdicts[0]);
     printf("5: at a card %lu, left over %lu; 9: old %lu, new %lu\n", bad_cards, left_over, long_old, long_new);
-    const unsigned long others[] = {answers[0], answers[1], answers[2], verdicts[0], verdicts[1], bad_cards, left_over, long_old, long_new};
+    printf("done, by the versions of shelf and sheet, 0 where there is none:\n");
+    missing += print_mixes("tag", mixes[TAG], "1020");
+    missing += print_mixes("verify", mixes[VERIFY], "11122122");
+    missing += print_mixes("report", mixes[REPORT], "11122122");
+    missing += print_mixes("replace", mixes[REPLACE], "0102");
+    missing += print_mixes("refused 25", refused_mixes, "122122");
+    printf("25 for one byte %lu; numbers differ too: 20 %lu, 21 %lu\n", one_byte, sealed_first, counted_first);
+    const unsigned long others[] = {answers[0], answers[1], answers[2], verdicts[0], verdicts[1], bad_cards, left_over, long_old, long_new,
+                                    one_byte, sealed_first, counted_first};
     for (size_t i = 0; i < COUNT(others); i++)
         missing += others[i] == 0;
     return missing;
@@ -384,6 +648,7 @@ int main(int argc, char **argv)
         printf("the second implementation fails its own check\n");
         return 1;
     }
+    list_all();
     printf("seed %llu, %llu cases\n", (unsigned long long)seed, (unsigned long long)(cases - first + 1));
     signal(SIGSEGV, crashed);
     signal(SIGBUS, crashed);

@@ -51,13 +51,55 @@ void put_two(uint8_t *to, unsigned value)
     to[1] = (uint8_t)value;
 }
 
+void put_four(uint8_t *to, uint32_t value)
+{
+    put_two(to, value >> 16);
+    put_two(to + 2, value & 0xffff);
+}
+
+uint32_t some_number(void)
+{
+    static const uint32_t usual[] = {0, 0, 0, 1, 2, 5, 255, 256, 0x10000, 0x1000000, 0x7fffffff, 0x80000000, 0xfffffffe, 0xffffffff};
+    return one_in(3) ? (uint32_t)any() : usual[below(COUNT(usual))];
+}
+
+uint32_t another_number(uint32_t number)
+{
+    uint32_t other = number;
+    while (other == number)
+        switch (below(7)) {
+        case 0: other ^= (uint32_t)1 << below(32); break;
+        case 1: other ^= (uint32_t)(1 + below(255)) << 8 * below(4); break;
+        case 2: other = number >> 24 | (number >> 8 & 0xff00) | (number << 8 & 0xff0000) | number << 24; break; /* the bytes turned round */
+        case 3: other = one_in(2) ? number + 1 : number - 1; break;
+        case 4: other = 0; break;
+        case 5: other = 0xffffffff; break;
+        default: other = some_number(); break;
+        }
+    return other;
+}
+
+unsigned label(unsigned which)
+{
+    static const unsigned fixed[FIXED_LABELS] = {0, 1, 2, 3, 0x0100, 0x0200, 0xffff, 0x0101, 0x0102, 0x0201, 0x8002};
+    return which < FIXED_LABELS ? fixed[which] : below(65536);
+}
+
 /* ---- A shelf of cards ---- */
+
+size_t head_len(const struct draft *d)
+{
+    return d->version == 1 ? 7 : 11;
+}
 
 size_t write_shelf(const struct draft *d, uint8_t *to)
 {
-    uint8_t *at = to + 7;
-    memcpy(to, "TBS\0\1", 5);
-    put_two(to + 5, d->count);
+    uint8_t *at = to + head_len(d);
+    memcpy(to, "TBS", 3);
+    put_two(to + 3, d->version);
+    if (d->version == 2)
+        put_four(to + 5, d->number);
+    put_two(at - 2, d->count);
     for (unsigned j = 1; j <= d->count; j++) {
         put_two(at, d->len[j]);
         memcpy(at + 2, d->card[j], d->len[j]);
@@ -68,7 +110,7 @@ size_t write_shelf(const struct draft *d, uint8_t *to)
 
 size_t place_of(const struct draft *d, unsigned number)
 {
-    size_t at = 7;
+    size_t at = head_len(d);
     for (unsigned j = 1; j < number; j++)
         at += 2 + d->len[j];
     return at;
@@ -87,9 +129,38 @@ unsigned some_length(unsigned style)
     }
 }
 
+void choose_number(struct draft *d)
+{
+    d->version = 1 + below(2);
+    d->number = d->version == 1 ? 0 : some_number();
+}
+
+void choose_version(struct draft *d)
+{
+    if (d->number == 0 && one_in(2))
+        d->version = 3 - d->version;
+}
+
+void renumber(struct draft *d)
+{
+    d->number = another_number(d->number);
+    d->version = d->number == 0 && one_in(2) ? 1 : 2;
+}
+
+void change_count(struct draft *d)
+{
+    if (one_in(2)) {
+        d->count--;
+    } else {
+        d->count++;
+        d->len[d->count] = below(4);
+        fill(d->card[d->count], d->len[d->count]);
+    }
+}
+
 void make_cards(struct draft *d, unsigned style)
 {
-    unsigned room = 65536 - 7 - 2 * d->count;
+    unsigned room = 65536 - (unsigned)head_len(d) - 2 * d->count;
     for (unsigned j = 1; j <= d->count; j++) {
         unsigned len = some_length(style);
         d->len[j] = len < room ? len : room;
@@ -101,6 +172,7 @@ void make_cards(struct draft *d, unsigned style)
 void make_shelf(struct draft *d)
 {
     static const uint8_t sizes[] = {1, 1, 1, 1, 1, 2, 2, 2, 2, 2, 3, 3, 3, 4}, styles[] = {0, 0, 0, 0, 0, 0, 0, 1, 1, 1, 1, 2, 2, 2};
+    choose_number(d);
     d->size = sizes[below(COUNT(sizes))];
     unsigned style = styles[below(COUNT(styles))], m = planes[d->size].cards;
     if (one_in(40))
@@ -116,7 +188,8 @@ static void forge(struct draft *d, const uint8_t keys[48], unsigned j, const uin
 {
     uint8_t first[16] = {0}, subkey[16] = {0}, last[16], got[16];
     fill(d->card[j], 8);
-    put_two(first + 6, j);
+    put_four(first, d->number);
+    put_four(first + 4, j);
     memcpy(first + 8, d->card[j], 8);
     second_encipher(keys, first, first);
     second_encipher(keys, subkey, subkey);
@@ -125,7 +198,7 @@ static void forge(struct draft *d, const uint8_t keys[48], unsigned j, const uin
     for (int i = 0; i < 16; i++)
         d->card[j][8 + i] = last[i] ^ first[i] ^ subkey[i];
     d->len[j] = 24;
-    second_code(keys, j, d->card[j], 24, got);
+    second_code(keys, d->number, j, d->card[j], 24, got);
     if (memcmp(got, want, 16) != 0) {
         printf("a forged card has another code than was wanted\n");
         exit(1);
@@ -136,7 +209,7 @@ static void forge(struct draft *d, const uint8_t keys[48], unsigned j, const uin
 static void move_code(struct draft *d, const uint8_t keys[48], unsigned j, const uint8_t difference[16])
 {
     uint8_t want[16];
-    second_code(keys, j, d->card[j], d->len[j], want);
+    second_code(keys, d->number, j, d->card[j], d->len[j], want);
     for (int i = 0; i < 16; i++)
         want[i] ^= difference[i];
     forge(d, keys, j, want);
@@ -213,18 +286,34 @@ void alter_cards(struct draft *d, const uint8_t keys[48], unsigned changed)
 
 /* ---- Damage ---- */
 
+/* The other version said in front of the same bytes. Or, where the shelf is not long, it gets a number by which its bytes are a good shelf in
+ * both versions, of one card in version 1; and either is said. */
+static size_t relabel(struct draft *d, uint8_t *file, size_t len)
+{
+    if (one_in(2) && len < 1024) {
+        d->version = 2;
+        len = write_shelf(d, file); /* from byte 9 on: count and cards, or all of the one card */
+        d->number = 0x10000 + (uint32_t)len - 9;
+        write_shelf(d, file);
+        put_two(file + 3, 1 + below(2));
+    } else {
+        put_two(file + 3, 3 - d->version);
+    }
+    return len;
+}
+
 size_t damage_shelf(struct draft *d, uint8_t *file, size_t len)
 {
-    unsigned m = planes[d->size].cards, count = d->count, j = 1 + below(count);
+    unsigned m = planes[d->size].cards, count = d->count, j = 1 + below(count), head = (unsigned)head_len(d);
     const unsigned counts[] = {0, count - 1, count + 1, m, m + 1, 65535, below(65536), count + 256};
     const unsigned lengths[] = {1024, 1025, 65535, d->len[j] + 1, d->len[j] - 1, below(65536), below(2048)};
-    const unsigned cuts[] = {1, 2, below(8), below((unsigned)len), (unsigned)len - below(9)};
-    switch (below(14)) {
+    const unsigned cuts[] = {1, 2, below(8), below((unsigned)len), (unsigned)len - below(13)};
+    switch (below(17)) {
     case 0: flip(file, len); break;
     case 1: file[below(3)] = (uint8_t)any(); break;
     case 2: memcpy(file, "TBT", 3); break;
-    case 3: put_two(file + 3, one_in(2) ? below(4) : below(65536)); break;
-    case 4: put_two(file + 5, counts[below(COUNT(counts))]); break;
+    case 3: put_two(file + 3, label(below(2 * FIXED_LABELS))); break;
+    case 4: put_two(file + head - 2, counts[below(COUNT(counts))]); break;
     case 5: put_two(file + place_of(d, j), lengths[below(COUNT(lengths))] & 0xffff); break;
     case 6: /* cut off */
         if (cuts[j = below(COUNT(cuts))] <= len)
@@ -241,16 +330,10 @@ size_t damage_shelf(struct draft *d, uint8_t *file, size_t len)
         len = below(80);
         fill(file, len);
         if (one_in(2) && len >= 7)
-            memcpy(file, "TBS\0\1\0", 6);
+            memcpy(file, one_in(2) ? "TBS\0\1\0" : "TBS\0\2\0", 6);
         break;
     case 9: /* a good shelf of one card more or fewer */
-        if (one_in(2)) {
-            d->count--;
-        } else {
-            d->count++;
-            d->len[d->count] = below(4);
-            fill(d->card[d->count], d->len[d->count]);
-        }
+        change_count(d);
         len = write_shelf(d, file);
         break;
     case 10: /* the same cards and one that is a byte too long */
@@ -261,10 +344,10 @@ size_t damage_shelf(struct draft *d, uint8_t *file, size_t len)
         break;
     case 11: /* empty cards, as many as a shelf holds */
         if (one_in(4)) {
-            unsigned cards = one_in(2) ? 32764 : below(32765), said = one_in(2) ? cards : cards + 1;
-            len = 7 + 2 * cards;
-            memset(file + 7, 0, 2 * cards);
-            put_two(file + 5, one_in(4) ? 65535 : said);
+            unsigned most = (65536 - head) / 2, cards = one_in(2) ? most : below(most + 1), said = one_in(2) ? cards : cards + 1;
+            len = head + 2 * cards;
+            memset(file + head, 0, 2 * cards);
+            put_two(file + head - 2, one_in(4) ? 65535 : said);
         }
         break;
     case 12: /* too long by a little, whatever it says */
@@ -275,6 +358,16 @@ size_t damage_shelf(struct draft *d, uint8_t *file, size_t len)
                 len = more;
             }
         }
+        break;
+    case 13: /* ends within the head, or a little behind it */
+        j = below(head + 5);
+        if (j < len)
+            len = j;
+        break;
+    case 14: len = relabel(d, file, len); break;
+    case 15: /* a good shelf of another number */
+        renumber(d);
+        len = write_shelf(d, file);
         break;
     default: len = 0; break;
     }

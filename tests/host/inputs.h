@@ -17,12 +17,22 @@ int one_in(unsigned n);
 void fill(uint8_t *to, size_t len);
 void flip(uint8_t *bytes, size_t len); /* one bit, unless there is none */
 void put_two(uint8_t *to, unsigned value);
+void put_four(uint8_t *to, uint32_t value);
+
+/* A shelf number: 0, small, large or any; and one that differs from it, often in one byte or bit only. */
+uint32_t some_number(void);
+uint32_t another_number(uint32_t number);
+
+/* What may stand as the version: below FIXED_LABELS one of a list, the versions that there are among them; above it any. */
+#define FIXED_LABELS 11u
+unsigned label(unsigned which);
 
 /* ---- A shelf of cards ---- */
 
 /* A shelf as its cards, numbered from 1, before it is laid out as a file. */
 struct draft {
-    unsigned size, count;
+    unsigned version, size, count;
+    uint32_t number; /* 0 in version 1 */
     unsigned len[MOST_CARDS + 2];
     uint8_t card[MOST_CARDS + 2][1025];
 };
@@ -30,16 +40,31 @@ struct draft {
 /* Lays the cards out as a file; returns its length. */
 size_t write_shelf(const struct draft *d, uint8_t *to);
 
+/* Bytes in front of the cards. */
+size_t head_len(const struct draft *d);
+
 /* Where the length of a card stands in the file. */
 size_t place_of(const struct draft *d, unsigned number);
 
 /* The length of a card; styles 0 to 2 are short, 5 is the longest. */
 unsigned some_length(unsigned style);
 
-/* Gives each card of a good shelf its length and bytes; size and count have been set. */
+/* Chooses version and number. */
+void choose_number(struct draft *d);
+
+/* Now and then lays number 0 out in the other version: the shelf is the same. */
+void choose_version(struct draft *d);
+
+/* Gives the shelf another number, which may take another version. */
+void renumber(struct draft *d);
+
+/* Takes the last card away or adds a short one. */
+void change_count(struct draft *d);
+
+/* Gives each card of a good shelf its length and bytes; version, number, size and count have been set. */
 void make_cards(struct draft *d, unsigned style);
 
-/* A good shelf of any size and count. */
+/* A good shelf of any version, number, size and count. */
 void make_shelf(struct draft *d);
 
 /* Changes so many of the cards: plainly, by changing places, or so that rows cancel. */

@@ -2,9 +2,10 @@
  *
  *     reports program [count [seed [case]]]
  *
- * First come the listed inputs: the edges of the format, every size and count, every refusal; then `count` random ones. A case depends on
- * the seed and its own number alone, so that a fourth argument runs a single case again. Input is handed over as a file or through a pipe, in pieces
- * of several lengths. Any difference, a status other than 0, a signal, or no end within some seconds fails; the input is then kept in a file. */
+ * First come the listed inputs: the edges of the format, every size and count, versions and numbers, every refusal;
+ * then `count` random ones. A case depends on the seed and its own number alone, so that a fourth argument runs a single
+ * case again. Input is handed over as a file or through a pipe, in pieces of several lengths. Any difference, a status
+ * other than 0, a signal, or no end within some seconds fails; the input is then kept in a file. */
 #define _GNU_SOURCE
 #include "inputs.h"
 
@@ -50,20 +51,38 @@ static void make_keys(void)
         memset(input, one_in(2) ? 0 : input[0], 48);
 }
 
-/* Keys, and two equal shelves. */
-static void start(unsigned size, unsigned count)
+/* Keys, and two equal shelves of that version and number; those of number 0 may be laid out in two versions. */
+static void start_numbered(unsigned version, uint32_t number, unsigned size, unsigned count)
 {
     make_keys();
+    cards[0].version = version;
+    cards[0].number = number;
     cards[0].size = size;
     cards[0].count = count;
     make_cards(&cards[0], below(3));
     cards[1] = cards[0];
+    choose_version(&cards[1]);
+}
+
+static void start(unsigned size, unsigned count)
+{
+    choose_number(&cards[0]);
+    start_numbered(cards[0].version, cards[0].number, size, count);
 }
 
 static void start_any(void)
 {
     unsigned size = 1 + below(4);
     start(size, 1 + below(planes[size].cards));
+}
+
+/* Two equal shelves, of which one is of that version. */
+static void start_in(unsigned which, unsigned version)
+{
+    start_any();
+    cards[which].version = version;
+    if (version == 1)
+        cards[0].number = cards[1].number = 0;
 }
 
 static void lay_out(void)
@@ -88,8 +107,10 @@ struct plan {
     const char *name;
     void (*make)(const struct plan *);
     unsigned size, count, changed; /* of good shelves */
-    unsigned len, said;            /* bytes, of the input or of a shelf; what stands as the first shelf's length */
+    unsigned len, said;            /* bytes, of the input or of a shelf; what stands as the first shelf's length, or as a version */
     unsigned which, where, how;    /* which shelf is wrong, where and how */
+    unsigned version[2];           /* of both shelves, or the first of the one that is wrong */
+    uint32_t number[2];
     unsigned way;                  /* how the input is handed over; 4 for any */
 };
 
@@ -114,7 +135,7 @@ static void good_any(const struct plan *p)
 /* Gives the cards lengths that fill a shelf of that length; they hold their bytes already. */
 static void fit(struct draft *d, size_t len)
 {
-    size_t room = len - 7 - 2 * d->count;
+    size_t room = len - head_len(d) - 2 * d->count;
     for (unsigned j = 1; j <= d->count; j++) {
         d->len[j] = room < 1024 ? (unsigned)room : 1024;
         room -= d->len[j];
@@ -205,15 +226,61 @@ static void wrong_count(const struct plan *p)
     join();
 }
 
-/* The head of a shelf cut short, or one of its first 5 bytes changed. */
+/* A shelf cut short in its head or a little behind it. */
+static void cut_head(const struct plan *p)
+{
+    start_in(p->which, p->version[0]);
+    lay_out();
+    if (p->len < file_len[p->which])
+        file_len[p->which] = p->len;
+    join();
+}
+
+/* One of a shelf's first 5 bytes changed. */
 static void wrong_head(const struct plan *p)
 {
-    start_any();
+    start_in(p->which, p->version[0]);
     lay_out();
-    if (p->len < 7)
-        file_len[p->which] = p->len;
-    else
-        file[p->which][p->where] ^= (uint8_t)(1 + below(255));
+    file[p->which][p->where] ^= (uint8_t)(1 + below(255));
+    join();
+}
+
+/* Another version said by a shelf. */
+static void wrong_version(const struct plan *p)
+{
+    start_in(p->which, p->version[0]);
+    lay_out();
+    put_two(file[p->which] + 3, p->said);
+    join();
+}
+
+/* Two good shelves of given versions and numbers; for `how` 1 the second has another count too, for 2 it is damaged. */
+static void numbered(const struct plan *p)
+{
+    unsigned size = 1 + below(4);
+    start_numbered(p->version[0], p->number[0], size, 1 + below(planes[size].cards));
+    alter_cards(&cards[1], input, p->changed);
+    cards[1].version = p->version[1];
+    cards[1].number = p->number[1];
+    if (p->how == 1)
+        change_count(&cards[1]);
+    lay_out();
+    if (p->how == 2)
+        file_len[1] = damage_shelf(&cards[1], file[1], file_len[1]);
+    join();
+}
+
+/* Two shelves of the same bytes but for the version, good in both: one card of 4 bytes in version 1, and a number with
+ * one empty card in version 2. */
+static void either_version(const struct plan *p)
+{
+    make_keys();
+    cards[0].size = 1 + below(4);
+    for (int which = 0; which < 2; which++) {
+        memcpy(file[which], "TBS\0\0\0\1\0\4\0\1\0\0", 13);
+        put_two(file[which] + 3, p->version[which]);
+        file_len[which] = 13;
+    }
     join();
 }
 
@@ -256,7 +323,7 @@ static void both_wrong(const struct plan *p)
     switch (p->how) {
     case 2: cards[0].size = 0; break;
     case 3: file[0][0] = 't'; break;
-    case 4: put_two(file[0] + 5, 0); break;
+    case 4: put_two(file[0] + head_len(&cards[0]) - 2, 0); break;
     default: file_len[0]--; break;
     }
     if (p->where == 0)
@@ -271,10 +338,11 @@ static void empty_cards(const struct plan *p)
 {
     start(1 + below(4), 1 + below(7));
     lay_out();
-    unsigned fitting = (65536 - FRONT - (unsigned)file_len[0] - 7) / 2;
-    put_two(file[1] + 5, fitting + p->said - 10);
-    memset(file[1] + 7, 0, 2 * fitting);
-    file_len[1] = 7 + 2 * fitting;
+    size_t head = head_len(&cards[1]);
+    unsigned fitting = (65536 - FRONT - (unsigned)file_len[0] - (unsigned)head) / 2;
+    put_two(file[1] + head - 2, fitting + p->said - 10);
+    memset(file[1] + head, 0, 2 * fitting);
+    file_len[1] = head + 2 * fitting;
     join();
 }
 
@@ -286,6 +354,9 @@ static void anything(const struct plan *p)
     make_shelf(&cards[0]);
     cards[1] = cards[0];
     alter_cards(&cards[1], input, how_many(&cards[1]));
+    choose_version(&cards[1]);
+    if (one_in(8))
+        renumber(&cards[1]);
     lay_out();
     for (int which = 0; which < 2; which++)
         if (one_in(5))
@@ -351,15 +422,42 @@ static void list_refusals(unsigned which)
         for (size_t i = 0; i < COUNT(counts); i++)
             list((struct plan){"another count", wrong_count, size, counts[i], .which = which, .way = 4});
     }
-    for (unsigned len = 0; len < 7; len++)
-        list((struct plan){"head cut short", wrong_head, .which = which, .len = len, .way = 4});
-    for (unsigned where = 0; where < 5; where++)
-        list((struct plan){"head changed", wrong_head, .which = which, .len = 7, .where = where, .way = 4});
+    for (unsigned version = 1; version <= 2; version++) {
+        for (unsigned len = 0; len < 15; len++)
+            list((struct plan){"head cut short", cut_head, .which = which, .len = len, .version = {version}, .way = 4});
+        for (unsigned where = 0; where < 5; where++)
+            list((struct plan){"head changed", wrong_head, .which = which, .where = where, .version = {version}, .way = 4});
+        for (unsigned i = 0; i < FIXED_LABELS; i++)
+            list((struct plan){"version changed", wrong_version, .which = which, .said = label(i), .version = {version}, .way = 4});
+    }
     for (unsigned how = 0; how < 4; how++)
         for (unsigned where = 0; where < 9; where++)
             list((struct plan){"wrong card", wrong_card, .which = which, .where = where % 3, .how = how, .way = 4});
     for (unsigned len = 1; len < 2000; len = 2 * len + 1)
         list((struct plan){"bytes left over", left_over, .which = which, .len = len, .way = 4});
+}
+
+/* Numbers of the first shelf and the second, in every version that can say them. */
+static void list_numbers(uint32_t a, uint32_t b)
+{
+    for (unsigned first = a == 0 ? 1 : 2; first <= 2; first++)
+        for (unsigned second = b == 0 ? 1 : 2; second <= 2; second++)
+            for (unsigned how = 0; how < 3; how++)
+                for (unsigned changed = 0; changed < 2; changed++)
+                    list((struct plan){"numbered shelves", numbered, .changed = changed, .how = how, .version = {first, second},
+                                       .number = {a, b}, .way = 4});
+}
+
+static void list_versions(void)
+{
+    static const uint32_t pairs[][2] = {{0, 0}, {5, 5}, {0xffffffff, 0xffffffff}, {0, 1}, {1, 0}, {0, 0xffffffff}, {0xffffffff, 0},
+                                        {5, 0x05000000}, {0x01020304, 0x01020305}, {0x01020304, 0x01020404}, {0x01020304, 0x01030304},
+                                        {0x01020304, 0x02020304}};
+    for (size_t i = 0; i < COUNT(pairs); i++)
+        list_numbers(pairs[i][0], pairs[i][1]);
+    for (unsigned first = 1; first <= 2; first++)
+        for (unsigned second = 1; second <= 2; second++)
+            list((struct plan){"shelves good in either version", either_version, .version = {first, second}, .way = 4});
 }
 
 static void list_all(void)
@@ -371,6 +469,7 @@ static void list_all(void)
         list_good(size);
     for (size_t i = 0; i < COUNT(codes); i++)
         list((struct plan){"wrong size code", wrong_size, .size = codes[i], .way = 4});
+    list_versions();
     list_refusals(0);
     list_refusals(1);
     for (unsigned how = 2; how < 6; how++)
@@ -529,17 +628,18 @@ static void differs(const struct plan *plan, unsigned way, const char *what)
     exit(1);
 }
 
-enum { SHORT, LONG, PAST, TAG_2, TAG_3, TAG_4, TAG_5, TAG_LEFT, REPORT_3, REPORT_5, REPORT_LEFT, REPORT_21, INTACT, NAMED, BEYOND, KINDS };
+enum { SHORT, LONG, PAST, TAG_2, TAG_3, TAG_4, TAG_5, TAG_LEFT, REPORT_3, REPORT_5, REPORT_LEFT, REPORT_21, REPORT_25,
+       INTACT, NAMED, BEYOND, KINDS };
 static const char *const kinds[KINDS] = {
     "unreadable, too short", "unreadable, too long", "unreadable, length past the end", "first shelf: 2", "first shelf: 3", "first shelf: 4",
     "first shelf: 5 at a card", "first shelf: 5, left over", "second shelf: 3", "second shelf: 5 at a card", "second shelf: 5, left over",
-    "second shelf: 21", "intact", "named", "beyond"};
+    "second shelf: 21", "second shelf: 25", "intact", "named", "beyond"};
 static unsigned long seen[KINDS];
 
 /* Which of those the expected text is, for a refusal by looking at the shelves; KINDS if none. */
 static unsigned kind(void)
 {
-    uint8_t sheet[24 + 16 * MOST_TAGS];
+    uint8_t sheet[MOST_SHEET];
     unsigned number, place;
     if (strcmp(expected, "unreadable\n") == 0)
         return input_len < FRONT ? SHORT : input_len > 65536 ? LONG : PAST;
@@ -548,10 +648,10 @@ static unsigned kind(void)
     size_t first_len = input[49] * 256u + input[50];
     int second = second_tag(input, 48, input[48], input + FRONT, first_len, sheet, sizeof sheet).number == 0;
     const uint8_t *shelf = input + FRONT + (second ? first_len : 0);
-    if (number == 5 && place == shelf[5] * 256u + shelf[6] + 1)
+    if (number == 5 && place == second_count(shelf) + 1)
         return second ? REPORT_LEFT : TAG_LEFT;
     if (second)
-        return number == 3 ? REPORT_3 : number == 5 ? REPORT_5 : number == 21 ? REPORT_21 : KINDS;
+        return number == 3 ? REPORT_3 : number == 5 ? REPORT_5 : number == 21 ? REPORT_21 : number == 25 ? REPORT_25 : KINDS;
     return number >= 2 && number <= 5 ? TAG_2 + number - 2 : KINDS;
 }
 
@@ -582,7 +682,7 @@ static int print_table(void)
 {
     int missing = 0;
     for (unsigned k = 0; k < KINDS; k++) {
-        printf("%s %lu%s", kinds[k], seen[k], k == PAST || k == TAG_LEFT || k == REPORT_21 || k + 1 == KINDS ? "\n" : "; ");
+        printf("%s %lu%s", kinds[k], seen[k], k == PAST || k == TAG_LEFT || k == REPORT_25 || k + 1 == KINDS ? "\n" : "; ");
         missing += seen[k] == 0;
     }
     return missing;

@@ -185,19 +185,22 @@ void second_cmac(const uint8_t key[16], const uint8_t *bytes, size_t len, uint8_
     cmac(w, NULL, 0, bytes, len, out);
 }
 
-static void code(const uint8_t w[176], unsigned number, const uint8_t *card, size_t len, uint8_t out[16])
+/* Shelf number and card number, 4 bytes each, then the card. */
+static void code(const uint8_t w[176], uint32_t shelf_number, unsigned card_number, const uint8_t *card, size_t len, uint8_t out[16])
 {
-    uint8_t front[8] = {0};
-    for (int i = 0; i < 4; i++)
-        front[7 - i] = (uint8_t)(number >> 8 * i);
+    uint8_t front[8];
+    for (int i = 0; i < 4; i++) {
+        front[3 - i] = (uint8_t)(shelf_number >> 8 * i);
+        front[7 - i] = (uint8_t)(card_number >> 8 * i);
+    }
     cmac(w, front, 8, card, len, out);
 }
 
-void second_code(const uint8_t keys[48], unsigned number, const uint8_t *card, size_t len, uint8_t out[16])
+void second_code(const uint8_t keys[48], uint32_t shelf_number, unsigned card_number, const uint8_t *card, size_t len, uint8_t out[16])
 {
     uint8_t w[176];
     expand(keys, w);
-    code(w, number, card, len, out);
+    code(w, shelf_number, card_number, card, len, out);
 }
 
 /* ---- Planes ---- */
@@ -330,17 +333,45 @@ static struct result done(void)
     return refuse(0, 0);
 }
 
-static int bad_head(const uint8_t *shelf, size_t len)
+/* What stands in front of the cards or the tags. */
+struct head {
+    unsigned version, size, count; /* size: of a sheet alone */
+    uint32_t number;               /* 0 in version 1, which has none */
+    size_t len;                    /* its own bytes */
+};
+
+uint32_t second_number(const uint8_t *file)
 {
-    return len < 7 || len > 65536 || memcmp(shelf, "TBS", 3) != 0 || two(shelf + 3) != 1;
+    return two(file + 3) == 1 ? 0 : (uint32_t)two(file + 5) << 16 | two(file + 7);
+}
+
+/* Letters and version are read first, for how long the head is depends on them. Returns 1 if these are no letters or no version that there
+ * is, or if the file ends within the head. */
+static int bad_front(const char *letters, size_t shortest, const uint8_t *file, size_t len, struct head *h)
+{
+    if (len < 5 || memcmp(file, letters, 3) != 0)
+        return 1;
+    h->version = two(file + 3);
+    if (h->version != 1 && h->version != 2)
+        return 1;
+    h->len = h->version == 1 ? shortest : shortest + 4;
+    if (len < h->len)
+        return 1;
+    h->number = second_number(file);
+    h->count = two(file + h->len - 2); /* last in the head of either file */
+    return 0;
+}
+
+static int bad_head(const uint8_t *shelf, size_t len, struct head *h)
+{
+    return len > 65536 || bad_front("TBS", 7, shelf, len, h);
 }
 
 /* Place of the first bad card, count + 1 for bytes left over, 0 if all is well. The head has been read. */
-static unsigned bad_card(const uint8_t *shelf, size_t len)
+static unsigned bad_card(const uint8_t *shelf, size_t len, const struct head *h)
 {
-    unsigned count = two(shelf + 5);
-    size_t at = 7;
-    for (unsigned j = 1; j <= count; j++) {
+    size_t at = h->len;
+    for (unsigned j = 1; j <= h->count; j++) {
         if (len - at < 2)
             return j;
         size_t card = two(shelf + at);
@@ -349,20 +380,19 @@ static unsigned bad_card(const uint8_t *shelf, size_t len)
             return j;
         at += card;
     }
-    return at < len ? count + 1 : 0;
+    return at < len ? h->count + 1 : 0;
 }
 
-/* Sums of all rows of a shelf that has been read. */
-static void shelf_sums(const struct keys *k, unsigned size, const uint8_t *shelf, uint8_t sums[][16])
+/* Sums of all rows of a shelf that has been read, its codes under that shelf number. */
+static void shelf_sums(const struct keys *k, unsigned size, const uint8_t *shelf, const struct head *h, uint32_t number, uint8_t sums[][16])
 {
     const struct plane *p = &planes[size];
-    unsigned count = two(shelf + 5);
-    const uint8_t *at = shelf + 7;
+    const uint8_t *at = shelf + h->len;
     memset(sums, 0, (p->cards + 1) * 16);
-    for (unsigned j = 1; j <= count; j++) {
+    for (unsigned j = 1; j <= h->count; j++) {
         uint8_t c[16];
         unsigned len = two(at);
-        code(k->card, j, at + 2, len, c);
+        code(k->card, number, j, at + 2, len, c);
         at += 2 + len;
         for (unsigned i = 1; i <= p->cards; i++)
             if (on[size][i][j])
@@ -370,13 +400,24 @@ static void shelf_sums(const struct keys *k, unsigned size, const uint8_t *shelf
     }
 }
 
-static int bad_sheet(const uint8_t *sheet, size_t len)
+size_t second_sheet_len(unsigned version, unsigned size)
 {
-    if (len < 24 || memcmp(sheet, "TBT", 3) != 0 || two(sheet + 3) != 1 || sheet[5] < 1 || sheet[5] > 4)
+    return (version == 1 ? 24 : 28) + 16 * planes[size].tags;
+}
+
+static int bad_sheet(const uint8_t *sheet, size_t len, struct head *h)
+{
+    if (bad_front("TBT", 8, sheet, len, h))
         return 1;
-    const struct plane *p = &planes[sheet[5]];
-    unsigned count = two(sheet + 6);
-    return count < 1 || count > p->cards || len != 24 + 16 * p->tags;
+    h->size = sheet[h->len - 3];
+    if (h->size < 1 || h->size > 4)
+        return 1;
+    return h->count < 1 || h->count > planes[h->size].cards || len != second_sheet_len(h->version, h->size);
+}
+
+unsigned second_count(const uint8_t *shelf)
+{
+    return two(shelf + (two(shelf + 3) == 1 ? 5 : 9));
 }
 
 static int bad_seal(const struct keys *k, const uint8_t *sheet, size_t len)
@@ -388,56 +429,71 @@ static int bad_seal(const struct keys *k, const uint8_t *sheet, size_t len)
 
 /* ---- The four calls ---- */
 
-struct result second_tag(const uint8_t *keys, size_t keys_len, uint64_t size, const uint8_t *shelf, size_t shelf_len, uint8_t *out,
-                         size_t out_len)
+struct result second_tag_in(unsigned version, const uint8_t *keys, size_t keys_len, uint64_t size, const uint8_t *shelf, size_t shelf_len,
+                            uint8_t *out, size_t out_len)
 {
     uint8_t sums[MOST_CARDS + 1][16];
+    struct head h;
     if (keys_len != 48)
         return refuse(1, 0);
     if (size < 1 || size > 4)
         return refuse(2, 0);
-    if (bad_head(shelf, shelf_len))
+    if (bad_head(shelf, shelf_len, &h))
         return refuse(3, 0);
     const struct plane *p = &planes[size];
-    unsigned count = two(shelf + 5);
-    if (count < 1 || count > p->cards)
+    if (h.count < 1 || h.count > p->cards)
         return refuse(4, 0);
-    unsigned place = bad_card(shelf, shelf_len);
+    unsigned place = bad_card(shelf, shelf_len, &h);
     if (place)
         return refuse(5, place);
-    size_t len = 24 + 16 * p->tags;
+    size_t len = second_sheet_len(version, (unsigned)size);
     if (out_len < len)
         return refuse(7, 0);
     struct keys k = expand_all(keys);
-    shelf_sums(&k, (unsigned)size, shelf, sums);
-    memcpy(out, "TBT\0\1", 5);
-    out[5] = (uint8_t)size;
-    out[6] = shelf[5];
-    out[7] = shelf[6];
-    for (unsigned i = 1; i <= p->tags; i++)
-        tag_of_sum(&k, i, sums[i], out + 8 + 16 * (i - 1));
-    cmac(k.seal, NULL, 0, out, len - 16, out + len - 16);
+    uint32_t number = version == 1 ? 0 : h.number;
+    shelf_sums(&k, (unsigned)size, shelf, &h, number, sums);
+    uint8_t *at = out;
+    memcpy(at, "TBT\0", 4);
+    at[4] = (uint8_t)version;
+    at += 5;
+    for (int i = 3; i >= 0 && version == 2; i--)
+        *at++ = (uint8_t)(number >> 8 * i);
+    at[0] = (uint8_t)size;
+    at[1] = (uint8_t)(h.count >> 8);
+    at[2] = (uint8_t)h.count;
+    at += 3;
+    for (unsigned i = 1; i <= p->tags; i++, at += 16)
+        tag_of_sum(&k, i, sums[i], at);
+    cmac(k.seal, NULL, 0, out, len - 16, at);
     return done();
 }
 
-/* The checks that verify and report share. */
+struct result second_tag(const uint8_t *keys, size_t keys_len, uint64_t size, const uint8_t *shelf, size_t shelf_len, uint8_t *out,
+                         size_t out_len)
+{
+    return second_tag_in(2, keys, keys_len, size, shelf, shelf_len, out, out_len);
+}
+
+/* The checks that verify and report share; gives the two heads. */
 static struct result check_both(const uint8_t *keys, size_t keys_len, const uint8_t *shelf, size_t shelf_len, const uint8_t *sheet,
-                                size_t sheet_len)
+                                size_t sheet_len, struct head *h, struct head *s)
 {
     if (keys_len != 48)
         return refuse(1, 0);
-    if (bad_head(shelf, shelf_len))
+    if (bad_head(shelf, shelf_len, h))
         return refuse(3, 0);
-    unsigned place = bad_card(shelf, shelf_len);
+    unsigned place = bad_card(shelf, shelf_len, h);
     if (place)
         return refuse(5, place);
-    if (bad_sheet(sheet, sheet_len))
+    if (bad_sheet(sheet, sheet_len, s))
         return refuse(6, 0);
     struct keys k = expand_all(keys);
     if (bad_seal(&k, sheet, sheet_len))
         return refuse(20, 0);
-    if (two(shelf + 5) != two(sheet + 6))
+    if (h->count != s->count)
         return refuse(21, 0);
+    if (h->number != s->number)
+        return refuse(25, 0);
     return done();
 }
 
@@ -445,15 +501,16 @@ struct result second_verify(const uint8_t *keys, size_t keys_len, const uint8_t 
                             size_t sheet_len)
 {
     uint8_t sums[MOST_CARDS + 1][16], tag[16];
-    struct result r = check_both(keys, keys_len, shelf, shelf_len, sheet, sheet_len);
+    struct head h, s;
+    struct result r = check_both(keys, keys_len, shelf, shelf_len, sheet, sheet_len, &h, &s);
     if (r.number)
         return r;
     struct keys k = expand_all(keys);
-    shelf_sums(&k, sheet[5], shelf, sums);
+    shelf_sums(&k, s.size, shelf, &h, h.number, sums);
     r.yes = 1;
-    for (unsigned i = 1; i <= planes[sheet[5]].tags; i++) {
+    for (unsigned i = 1; i <= planes[s.size].tags; i++) {
         tag_of_sum(&k, i, sums[i], tag);
-        if (memcmp(tag, sheet + 8 + 16 * (i - 1), 16) != 0)
+        if (memcmp(tag, sheet + s.len + 16 * (i - 1), 16) != 0)
             r.yes = 0;
     }
     return r;
@@ -463,17 +520,18 @@ struct result second_report(const uint8_t *keys, size_t keys_len, const uint8_t 
                             size_t sheet_len, uint8_t *marks, size_t marks_len)
 {
     uint8_t sums[MOST_CARDS + 1][16], tagged[MOST_TAGS + 1][16], differs[MOST_CARDS + 1];
-    struct result r = check_both(keys, keys_len, shelf, shelf_len, sheet, sheet_len);
+    struct head h, s;
+    struct result r = check_both(keys, keys_len, shelf, shelf_len, sheet, sheet_len, &h, &s);
     if (r.number)
         return r;
-    unsigned size = sheet[5], count = two(shelf + 5);
+    unsigned size = s.size, count = h.count;
     const struct plane *p = &planes[size];
     if (marks_len < count)
         return refuse(7, 0);
     struct keys k = expand_all(keys);
-    shelf_sums(&k, size, shelf, sums);
+    shelf_sums(&k, size, shelf, &h, h.number, sums);
     for (unsigned i = 1; i <= p->tags; i++)
-        sum_of_tag(&k, i, sheet + 8 + 16 * (i - 1), tagged[i]);
+        sum_of_tag(&k, i, sheet + s.len + 16 * (i - 1), tagged[i]);
     memset(marks, 1, count);
     for (unsigned i = 1; i <= p->cards; i++) {
         uint8_t sum[16] = {0};
@@ -509,14 +567,15 @@ struct result second_replace(const uint8_t *keys, size_t keys_len, const uint8_t
                              const uint8_t *old_card, size_t old_len, const uint8_t *new_card, size_t new_len, uint8_t *out,
                              size_t out_len)
 {
+    struct head s;
     if (keys_len != 48)
         return refuse(1, 0);
-    if (bad_sheet(sheet, sheet_len))
+    if (bad_sheet(sheet, sheet_len, &s))
         return refuse(6, 0);
     struct keys k = expand_all(keys);
     if (bad_seal(&k, sheet, sheet_len))
         return refuse(20, 0);
-    if (number < 1 || number > two(sheet + 6))
+    if (number < 1 || number > s.count)
         return refuse(8, 0);
     if (old_len > 1024)
         return refuse(9, 1);
@@ -525,18 +584,18 @@ struct result second_replace(const uint8_t *keys, size_t keys_len, const uint8_t
     if (out_len < sheet_len)
         return refuse(7, 0);
     uint8_t change[16], new_code[16];
-    unsigned size = sheet[5], j = (unsigned)number;
-    code(k.card, j, old_card, old_len, change);
-    code(k.card, j, new_card, new_len, new_code);
+    unsigned size = s.size, j = (unsigned)number;
+    code(k.card, s.number, j, old_card, old_len, change);
+    code(k.card, s.number, j, new_card, new_len, new_code);
     xor16(change, new_code);
-    memcpy(out, sheet, sheet_len);
+    memcpy(out, sheet, sheet_len); /* version and number among the rest */
     for (unsigned i = 1; i <= planes[size].tags; i++) {
         uint8_t sum[16];
         if (!on[size][i][j])
             continue;
-        sum_of_tag(&k, i, sheet + 8 + 16 * (i - 1), sum);
+        sum_of_tag(&k, i, sheet + s.len + 16 * (i - 1), sum);
         xor16(sum, change);
-        tag_of_sum(&k, i, sum, out + 8 + 16 * (i - 1));
+        tag_of_sum(&k, i, sum, out + s.len + 16 * (i - 1));
     }
     cmac(k.seal, NULL, 0, out, sheet_len - 16, out + sheet_len - 16);
     return done();
@@ -550,7 +609,7 @@ struct result second_replace(const uint8_t *keys, size_t keys_len, const uint8_t
 size_t second_print(const uint8_t *input, size_t len, char out[MOST_PRINTED])
 {
     static const char *const answers[] = {"intact", "named", "beyond"};
-    uint8_t sheet[24 + 16 * MOST_TAGS], marks[MOST_CARDS];
+    uint8_t sheet[MOST_SHEET], marks[MOST_CARDS];
     if (len < FRONT || len > 65536 || two(input + 49) > len - FRONT)
         return (size_t)sprintf(out, "unreadable\n");
     size_t first_len = two(input + 49), second_len = len - FRONT - first_len;
@@ -558,10 +617,10 @@ size_t second_print(const uint8_t *input, size_t len, char out[MOST_PRINTED])
     unsigned size = input[48];
     struct result r = second_tag(input, 48, size, first, first_len, sheet, sizeof sheet);
     if (r.number == 0)
-        r = second_report(input, 48, second, second_len, sheet, 24 + 16 * planes[size].tags, marks, sizeof marks);
+        r = second_report(input, 48, second, second_len, sheet, second_sheet_len(2, size), marks, sizeof marks);
     if (r.number != 0)
         return (size_t)sprintf(out, "refused %u place %u\n", r.number, r.place);
-    unsigned count = two(first + 5);
+    unsigned count = second_count(first);
     int at = sprintf(out, "cards %u tags %u limit %u\n", count, planes[size].tags, planes[size].limit);
     at += sprintf(out + at, "%s %u rows %u\n", answers[r.answer], r.named, r.rows);
     for (unsigned j = 1; j <= count; j++)
@@ -616,43 +675,96 @@ static void check_cmac(size_t len, const char *mac, const char *what)
     expect(memcmp(got, want, 16) == 0, what);
 }
 
-/* Cards 01 to 07; as many as `changed` says, from `first` on, are 09. */
-static void bench_shelf(unsigned first, unsigned changed, uint8_t shelf[28])
+/* Cards 01 to 07, of which as many as `changed` says, from `first` on, are 09; returns the shelf's length. */
+#define BENCH 32
+static size_t bench_shelf(unsigned version, uint8_t number, unsigned first, unsigned changed, uint8_t shelf[BENCH])
 {
-    memcpy(shelf, "TBS\0\1\0\7", 7);
-    for (unsigned j = 1; j <= 7; j++) {
-        memcpy(shelf + 7 + 3 * (j - 1), "\0\1", 2);
-        shelf[7 + 3 * (j - 1) + 2] = (uint8_t)(j >= first && j < first + changed ? 9 : j);
+    uint8_t *at = shelf + (version == 1 ? 7 : 11);
+    memcpy(shelf, version == 1 ? "TBS\0\1\0\7" : "TBS\0\2\0\0\0\0\0\7", (size_t)(at - shelf));
+    if (version == 2)
+        shelf[8] = number;
+    for (unsigned j = 1; j <= 7; j++, at += 3) {
+        memcpy(at, "\0\1", 2);
+        at[2] = (uint8_t)(j >= first && j < first + changed ? 9 : j);
     }
+    return (size_t)(at - shelf);
 }
 
-/* Zero keys, size 1, no card changed in the first shelf and some in the second. */
-static struct result bench(unsigned first, unsigned changed, uint8_t marks[7])
+/* Zero keys, size 1, no card changed in the first shelf and some in the second. Both shelves and the sheet are of that version, with that
+ * number in version 2. */
+static struct result bench(unsigned version, uint8_t number, unsigned first, unsigned changed, uint8_t marks[7])
 {
-    uint8_t keys[48] = {0}, shelf[28], sheet[88];
-    bench_shelf(0, 0, shelf);
-    second_tag(keys, 48, 1, shelf, 28, sheet, 88);
-    bench_shelf(first, changed, shelf);
-    return second_report(keys, 48, shelf, 28, sheet, 88, marks, 7);
+    uint8_t keys[48] = {0}, shelf[BENCH], sheet[92];
+    size_t len = bench_shelf(version, number, 0, 0, shelf), sheet_len = second_sheet_len(version, 1);
+    second_tag_in(version, keys, 48, 1, shelf, len, sheet, sheet_len);
+    bench_shelf(version, number, first, changed, shelf);
+    return second_report(keys, 48, shelf, len, sheet, sheet_len, marks, 7);
 }
 
-/* The same as an input of the report program, of which `len` bytes are given and the first shelf is said to have `said`. */
-static void check_print(size_t len, uint8_t said, const char *want, const char *what)
+static void check_bench(unsigned version, uint8_t number)
 {
-    uint8_t input[FRONT + 28 + 28] = {0};
+    uint8_t marks[7];
+    struct result r = bench(version, number, 2, 1, marks);
+    expect(r.answer == 1 && r.named == 1 && r.rows == 3 && memcmp(marks, "\0\1\0\0\0\0\0", 7) == 0, "card 2 changed");
+    r = bench(version, number, 1, 2, marks);
+    expect(r.answer == 1 && r.named == 2 && r.rows == 5 && memcmp(marks, "\1\1\0\0\0\0\0", 7) == 0, "cards 1 2 changed");
+    r = bench(version, number, 1, 3, marks);
+    expect(r.answer == 2 && r.named == 4 && r.rows == 6 && memcmp(marks, "\1\1\1\0\0\1\0", 7) == 0, "cards 1 2 3 changed");
+}
+
+/* The sheet of the bench shelf in version 1, as it was before there were numbers; and that of number 0, which differs in its head and its
+ * seal alone, and holds for either shelf, as the other does. */
+static void check_versions(void)
+{
+    uint8_t keys[48] = {0}, stored[88], shelf[BENCH], numbered[BENCH], old[88], new[92];
+    from_hex("5442540001010007"
+             "4bdf0e9c64a496fbbd40888cea13db6819465b138e64e5a3991216b2d984ad03"
+             "c8e3b27d8969805e09b431d2a67d7a2c6958adadb3c0b104f7dbe56c164c2cac"
+             "68bf1d14ea9b7f8d61a47e825488af6a", stored);
+    size_t len = bench_shelf(1, 0, 0, 0, shelf), numbered_len = bench_shelf(2, 0, 0, 0, numbered);
+    expect(second_tag_in(1, keys, 48, 1, shelf, len, old, 88).number == 0 && memcmp(old, stored, 88) == 0, "the stored sheet");
+    expect(second_tag(keys, 48, 1, shelf, len, new, 91).number == 7, "no room for version 2");
+    expect(second_tag(keys, 48, 1, shelf, len, new, 92).number == 0, "room for version 2");
+    expect(memcmp(new, "TBT\0\2\0\0\0\0\1\0\7", 12) == 0 && memcmp(new + 12, stored + 8, 64) == 0, "number 0 has the same tags");
+    expect(second_verify(keys, 48, shelf, len, old, 88).yes && second_verify(keys, 48, shelf, len, new, 92).yes
+               && second_verify(keys, 48, numbered, numbered_len, old, 88).yes
+               && second_verify(keys, 48, numbered, numbered_len, new, 92).yes, "number 0 in either version");
+    numbered[5] = 1;
+    expect(second_verify(keys, 48, numbered, numbered_len, old, 88).number == 25, "another number than the sheet of version 1");
+    expect(second_verify(keys, 48, numbered, numbered_len, new, 92).number == 25, "another number than the sheet of version 2");
+    numbered[4] = 3;
+    expect(second_verify(keys, 48, numbered, numbered_len, new, 92).number == 3, "a version that there is not");
+}
+
+/* A shelf of one empty card, one byte fewer and one more. */
+static void check_one_empty(const uint8_t *shelf, size_t len)
+{
+    uint8_t keys[48] = {0}, sheet[92];
+    expect(second_tag(keys, 48, 1, shelf, len, sheet, 92).number == 0, "a shelf of one empty card");
+    struct result r = second_tag(keys, 48, 1, shelf, len - 1, sheet, 92);
+    expect(r.number == 5 && r.place == 1, "one byte fewer");
+    r = second_tag(keys, 48, 1, shelf, len + 1, sheet, 92);
+    expect(r.number == 5 && r.place == 2, "one byte more");
+    expect(second_tag(keys, 48, 1, shelf, len - 2, sheet, 92).number == 5, "the head alone");
+    expect(second_tag(keys, 48, 1, shelf, len - 3, sheet, 92).number == 3, "less than the head");
+}
+
+/* The same as an input of the report program, of which `len` bytes are given and the first shelf is said to have `said`. The second shelf
+ * has that number, or none. */
+static void check_print(size_t len, uint8_t said, unsigned version, uint8_t number, const char *want, const char *what)
+{
+    uint8_t input[FRONT + 28 + BENCH] = {0};
     char printed[MOST_PRINTED];
     input[48] = 1;
     input[50] = said;
-    bench_shelf(0, 0, input + FRONT);
-    bench_shelf(2, 1, input + FRONT + 28);
+    bench_shelf(1, 0, 0, 0, input + FRONT);
+    bench_shelf(version, number, 2, 1, input + FRONT + 28);
     expect(second_print(input, len, printed) == strlen(want) && strcmp(printed, want) == 0, what);
 }
 
 int second_check(void)
 {
-    uint8_t marks[7], block[16] = {0x80}, doubled[16] = {0}, keys[48] = {0}, sheet[88];
-    static const uint8_t one_empty[10] = "TBS\0\1\0\1\0\0";
-    struct result r;
+    uint8_t block[16] = {0x80}, doubled[16] = {0};
     failed = 0;
     check_cipher("2b7e151628aed2a6abf7158809cf4f3c", "3243f6a8885a308d313198a2e0370734", "3925841d02dc09fbdc118597196a0b32",
                  "FIPS 197, appendix B");
@@ -671,22 +783,19 @@ int second_check(void)
     expect(on[1][4][1] && on[1][6][1] && on[1][7][1], "size 1, card 1 is on rows 4 6 7");
     expect(memcmp(on[2][1] + 1, "\0\0\0\1\0\0\1\1\0\0\0\0\1\0\1\0\0\0\0\0\0", 21) == 0, "size 2, row 1 holds 4 7 8 13 15");
     expect(memcmp(parts[1][5] + 1, "\1\1\1\0", 4) == 0, "size 1, row 5 is rows 1, 2, 3");
-    r = bench(2, 1, marks);
-    expect(r.answer == 1 && r.named == 1 && r.rows == 3 && memcmp(marks, "\0\1\0\0\0\0\0", 7) == 0, "card 2 changed");
-    r = bench(1, 2, marks);
-    expect(r.answer == 1 && r.named == 2 && r.rows == 5 && memcmp(marks, "\1\1\0\0\0\0\0", 7) == 0, "cards 1 2 changed");
-    r = bench(1, 3, marks);
-    expect(r.answer == 2 && r.named == 4 && r.rows == 6 && memcmp(marks, "\1\1\1\0\0\1\0", 7) == 0, "cards 1 2 3 changed");
-    expect(second_tag(keys, 48, 1, one_empty, 9, sheet, 88).number == 0, "a shelf of one empty card");
-    r = second_tag(keys, 48, 1, one_empty, 8, sheet, 88);
-    expect(r.number == 5 && r.place == 1, "one byte fewer");
-    r = second_tag(keys, 48, 1, one_empty, 10, sheet, 88);
-    expect(r.number == 5 && r.place == 2, "one byte more");
-    check_print(107, 28, "cards 7 tags 4 limit 2\nnamed 1 rows 3\ncard 2\n", "the report program's example");
-    check_print(107, 57, "unreadable\n", "a first shelf past the end");
-    check_print(107, 56, "refused 5 place 8\n", "both shelves as the first");
-    check_print(79, 28, "refused 3 place 0\n", "no second shelf");
-    check_print(51, 0, "refused 3 place 0\n", "no shelf at all");
-    check_print(50, 0, "unreadable\n", "fewer bytes than stand in front");
+    check_bench(1, 0);
+    check_bench(2, 0);
+    check_bench(2, 5);
+    check_versions();
+    check_one_empty((const uint8_t *)"TBS\0\1\0\1\0\0", 9);
+    check_one_empty((const uint8_t *)"TBS\0\2\0\0\0\5\0\1\0\0", 13);
+    check_print(107, 28, 1, 0, "cards 7 tags 4 limit 2\nnamed 1 rows 3\ncard 2\n", "the report program's example");
+    check_print(111, 28, 2, 0, "cards 7 tags 4 limit 2\nnamed 1 rows 3\ncard 2\n", "the same, number 0 said");
+    check_print(111, 28, 2, 5, "refused 25 place 0\n", "the same, number 5");
+    check_print(107, 57, 1, 0, "unreadable\n", "a first shelf past the end");
+    check_print(107, 56, 1, 0, "refused 5 place 8\n", "both shelves as the first");
+    check_print(79, 28, 1, 0, "refused 3 place 0\n", "no second shelf");
+    check_print(51, 0, 1, 0, "refused 3 place 0\n", "no shelf at all");
+    check_print(50, 0, 1, 0, "unreadable\n", "fewer bytes than stand in front");
     return failed;
 }

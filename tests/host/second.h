@@ -33,7 +33,7 @@ int second_start(void);
 /* The published vectors of the cipher and of CMAC and the bench cards of the requirements. Returns how many fail, naming each. */
 int second_check(void);
 
-/* The four calls. Output is written when the call is done, and not a byte when it refuses. */
+/* The four calls, on files of both versions. Output is written when the call is done, and not a byte when it refuses. */
 struct result second_tag(const uint8_t *keys, size_t keys_len, uint64_t size, const uint8_t *shelf, size_t shelf_len, uint8_t *out,
                          size_t out_len);
 struct result second_verify(const uint8_t *keys, size_t keys_len, const uint8_t *shelf, size_t shelf_len, const uint8_t *sheet,
@@ -44,6 +44,20 @@ struct result second_replace(const uint8_t *keys, size_t keys_len, const uint8_t
                              const uint8_t *old_card, size_t old_len, const uint8_t *new_card, size_t new_len, uint8_t *out,
                              size_t out_len);
 
+/* As second_tag, which writes version 2, but a sheet of that version, 1 or 2. Version 1 has no number: its codes are under number 0. */
+struct result second_tag_in(unsigned version, const uint8_t *keys, size_t keys_len, uint64_t size, const uint8_t *shelf, size_t shelf_len,
+                            uint8_t *out, size_t out_len);
+
+/* Bytes of a sheet of that version and size, and of the longest one. */
+size_t second_sheet_len(unsigned version, unsigned size);
+#define MOST_SHEET (28 + 16 * MOST_TAGS)
+
+/* The shelf number that a file with a whole head says, shelf or sheet: 0 in version 1. */
+uint32_t second_number(const uint8_t *file);
+
+/* The count that a shelf with a whole head says. */
+unsigned second_count(const uint8_t *shelf);
+
 /* What the report program prints for an input, to the last byte; returns its length. The text ends in a zero byte that is not counted. */
 #define MOST_PRINTED 4096
 size_t second_print(const uint8_t *input, size_t len, char out[MOST_PRINTED]);
@@ -53,7 +67,7 @@ void second_encipher(const uint8_t key[16], const uint8_t in[16], uint8_t out[16
 void second_decipher(const uint8_t key[16], const uint8_t in[16], uint8_t out[16]);
 void second_double(uint8_t block[16]);
 void second_cmac(const uint8_t key[16], const uint8_t *bytes, size_t len, uint8_t out[16]);
-void second_code(const uint8_t keys[48], unsigned number, const uint8_t *card, size_t len, uint8_t out[16]);
+void second_code(const uint8_t keys[48], uint32_t shelf_number, unsigned card_number, const uint8_t *card, size_t len, uint8_t out[16]);
 int second_on_row(unsigned size, unsigned row, unsigned card);
 
 /* Whether the row of a tag is one of those whose XOR is a row. */
