@@ -1,5 +1,6 @@
 -- The law of loops that write an array from the front (fips197's Loop), passed on; and what it gives for the front and for a part of a longer slice.
-use Rattle.fips197.proofs.Kit.{_≡_, refl, ap, _∙_, List, [], _∷_, _++_, map, append-nil, ℕ, zero, suc, _+_, _-_, _≤_, _<_, not-suc-le-zero, le-of-suc-le-suc, arith, length, getD, take, drop, length-drop, take-length, take-all, drop-drop, drop-length, putMid}
+-- And parts put one behind another.
+use Rattle.fips197.proofs.Kit.{_≡_, refl, sym, ap, ap₂, _∙_, List, [], _∷_, _++_, map, append-nil, append-assoc, ℕ, zero, suc, _+_, _-_, _≤_, _<_, not-suc-le-zero, le-of-suc-le-suc, arith, length, getD, take, drop, length-append, length-drop, take-length, take-all, take-at, drop-at, drop-drop, drop-length, putMid}
 pub use Rattle.fips197.proofs.Loop.{part, part-turn, part-read, part-done}
 
 pub map-at : (f : ℕ → ℕ) (l : List ℕ) (i : ℕ) → i < length l → getD (map f l) i 0 ≡ f (getD l i 0)
@@ -25,3 +26,16 @@ pub part-copied : (xs ys text : List ℕ) (a : ℕ) → a + length text ≤ leng
     → putMid a (length xs - a) xs ys ≡ take a xs ++ (text ++ drop (a + length text) xs)
 part-copied xs ys text a h e =
     part-back xs ys text a (length text) h (e ∙ ap (λ (l : List ℕ). l ++ drop (length text) (take (length xs - a) (drop a xs))) (take-length text))
+
+-- ---- one part put behind another, at the front of a list o: o1 has f there, and o2 x behind it
+
+pub front-kept : (f o o1 : List ℕ) (at : ℕ) → length f ≡ at → at ≤ length o → o1 ≡ f ++ drop at o → length o1 ≡ length o
+front-kept f o o1 at h l e = ap length e ∙ length-append f (drop at o) ∙ simp length-drop (omega arith)
+
+pub put-behind : (f x o o1 o2 : List ℕ) (at k : ℕ) → length f ≡ at → o1 ≡ f ++ drop at o → o2 ≡ take at o1 ++ (x ++ drop (at + k) o1)
+    → o2 ≡ (f ++ x) ++ drop (at + k) o
+put-behind f x o o1 o2 at k h e1 e2 =
+    e2
+    ∙ ap₂ (λ (a b : List ℕ). a ++ (x ++ b)) (ap (take at) e1 ∙ take-at f (drop at o) at h)
+    (sym (drop-drop k at o1) ∙ ap (drop k) (ap (drop at) e1 ∙ drop-at f (drop at o) at h) ∙ drop-drop k at o)
+    ∙ sym (append-assoc f x (drop (at + k) o))

@@ -1,10 +1,11 @@
 -- The tag file: what each check of the code settles, and that what is accepted is what the writer lays out and seals.
-use Rattle.fips197.proofs.Kit.{_≡_, refl, sym, ap, ap₂, _∙_, Bool, true, false, _&&_, List, _∷_, _++_, append-assoc, ℕ, _+_, _-_, _≤_, _<_, arith, leb, length, take, drop, length-append, length-drop, take-at, drop-at, drop-drop, take-all, le-leb, lt-leb}
+use Rattle.fips197.proofs.Kit.{_≡_, refl, sym, ap, ap₂, _∙_, Bool, true, false, _&&_, List, _∷_, _++_, ℕ, _+_, _-_, _≤_, _<_, arith, leb, length, take, drop, length-append, length-drop, take-all, le-leb, lt-leb}
 use Rattle.blocks.specs.Block.{same}
 use Rattle.blocks.specs.Number.{bigEndian}
 use Rattle.cipher.specs.Cmac.{cmac}
 use Rattle.sizes.specs.Sizes.{known, familyOf}
 use Rattle.files.specs.Refusals.{unless}
+use Rattle.blocks.proofs.Loop.{front-kept, put-behind}
 use Rattle.blocks.proofs.Numbers.{bigEndian-length}
 use Rattle.stamp.specs.Front.{front, frontSize}
 use Rattle.stamp.proofs.Fronts.{front-length}
@@ -39,27 +40,18 @@ header-length h =
     length-append (front tagLetters (h .stamp)) (h .code ∷ bigEndian 2 (h .count)) ∙ omega arith
 
 module _ (h : Head) (o o1 : List ℕ) (e1 : o1 ≡ front tagLetters (h .stamp) ++ drop (frontSize (h .stamp .version)) o) where
-  abbrev f : List ℕ
-  f = front tagLetters (h .stamp)
-
-  abbrev at : ℕ
-  at = frontSize (h .stamp .version)
-
-  front-long : length f ≡ at
+  front-long : length (front tagLetters (h .stamp)) ≡ frontSize (h .stamp .version)
   unfolding tagLetters
   front-long = front-length tagLetters (h .stamp) refl
 
-  pub front-put : at ≤ length o → length o1 ≡ length o
-  front-put l = ap length e1 ∙ length-append f (drop at o) ∙ simp length-drop (omega (arith, front-long))
+  pub front-put : frontSize (h .stamp .version) ≤ length o → length o1 ≡ length o
+  front-put l = front-kept (front tagLetters (h .stamp)) o o1 (frontSize (h .stamp .version)) front-long l e1
 
-  pub header-put : (o2 : List ℕ) → o2 ≡ take at o1 ++ ((h .code ∷ bigEndian 2 (h .count)) ++ drop (at + 3) o1) → o2 ≡ header h ++ drop (tagsAt (h .stamp .version)) o
+  pub header-put : (o2 : List ℕ)
+      → o2 ≡ take (frontSize (h .stamp .version)) o1 ++ ((h .code ∷ bigEndian 2 (h .count)) ++ drop (frontSize (h .stamp .version) + 3) o1)
+      → o2 ≡ header h ++ drop (tagsAt (h .stamp .version)) o
   unfolding header tagsAt
-  header-put o2 e2 =
-      let x = h .code ∷ bigEndian 2 (h .count) in
-      e2
-      ∙ ap₂ (λ (a b : List ℕ). a ++ (x ++ b)) (ap (take at) e1 ∙ take-at f (drop at o) at front-long)
-      (sym (drop-drop 3 at o1) ∙ ap (drop 3) (ap (drop at) e1 ∙ drop-at f (drop at o) at front-long) ∙ drop-drop 3 at o)
-      ∙ sym (append-assoc f x (drop (at + 3) o))
+  header-put o2 e2 = put-behind (front tagLetters (h .stamp)) (h .code ∷ bigEndian 2 (h .count)) o o1 o2 (frontSize (h .stamp .version)) 3 front-long e1 e2
 
 -- ---- what is tested of the size code, the count and the length
 

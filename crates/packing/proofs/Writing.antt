@@ -1,6 +1,7 @@
 -- Bytes put into a buffer: an item with its length behind a file whose count is raised, and the file without items.
 use Rattle.fips197.proofs.Kit.{_≡_, sym, ap, ap₂, _∙_, List, [], _++_, append-assoc, append-nil, ℕ, _+_, _≤_, arith, length, take, drop, length-append, length-drop, take-append-drop, take-at, drop-at, take-append-le, drop-append-le, drop-drop, length-take-le}
 use Rattle.blocks.specs.Number.{number, bigEndian}
+use Rattle.blocks.proofs.Loop.{front-kept, put-behind}
 use Rattle.blocks.proofs.Numbers.{bigEndian-length}
 use Rattle.stamp.specs.declared.Stamp.{Stamp}
 use Rattle.stamp.specs.Front.{front, frontSize, versionOf}
@@ -143,8 +144,7 @@ module _ (f : List ℕ) (n : ℕ) (item : List ℕ) (low : itemsAt (versionOf (t
 -- the count 0 behind letters, version and number
 module _ (st : Stamp) (o o₁ : List ℕ) (e₁ : o₁ ≡ front messageLetters st ++ drop (frontSize (st .version)) o) where
   pub front-put : frontSize (st .version) ≤ length o → length o₁ ≡ length o
-  front-put l =
-      ap length e₁ ∙ length-append (front messageLetters st) (drop (frontSize (st .version)) o) ∙ simp length-drop (omega (arith, letters-long st))
+  front-put l = front-kept (front messageLetters st) o o₁ (frontSize (st .version)) (letters-long st) l e₁
 
   pub empty-put : (o₂ count : List ℕ) (a : ℕ) → count ≡ bigEndian 2 0 → a ≡ frontSize (st .version)
       → o₂ ≡ take a o₁ ++ (count ++ drop (a + length count) o₁) → o₂ ≡ messageOf st [] ++ drop (itemsAt (st .version)) o
@@ -153,11 +153,7 @@ module _ (st : Stamp) (o o₁ : List ℕ) (e₁ : o₁ ≡ front messageLetters 
       let f = front messageLetters st in
       let b = frontSize (st .version) in
       let n = bigEndian 2 0 in
-      let hf = letters-long st in
-      e₂
-      ∙ ap₂ (λ (j : ℕ) (c : List ℕ). take j o₁ ++ (c ++ drop (j + length c) o₁)) ea ec
-      ∙ ap (λ (j : ℕ). take b o₁ ++ (n ++ drop (b + j) o₁)) (bigEndian-length 2 0)
-      ∙ ap₂ (λ (x y : List ℕ). x ++ (n ++ y)) (ap (take b) e₁ ∙ take-at f (drop b o) b hf)
-      (sym (drop-drop 2 b o₁) ∙ ap (drop 2) (ap (drop b) e₁ ∙ drop-at f (drop b o) b hf) ∙ drop-drop 2 b o)
-      ∙ sym (append-assoc f n (drop (b + 2) o))
+      put-behind f n o o₁ o₂ b 2 (letters-long st) e₁
+      (e₂ ∙ ap₂ (λ (j : ℕ) (c : List ℕ). take j o₁ ++ (c ++ drop (j + length c) o₁)) ea ec
+      ∙ ap (λ (j : ℕ). take b o₁ ++ (n ++ drop (b + j) o₁)) (bigEndian-length 2 0))
       ∙ ap (λ (t : List ℕ). (f ++ t) ++ drop (b + 2) o) (sym (append-nil n))

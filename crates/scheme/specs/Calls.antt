@@ -1,5 +1,5 @@
--- Document 01, 'Calls and order of checks': Tag, Verify, Report and Replace, each as what it answers and what it leaves in the buffer that
--- it is lent, for all inputs. What each refuses is in checks, Refused.antt. Assumes nothing.
+-- Document 01, 'Calls and order of checks', with the versions and numbers of document 02, 2.3: Tag, Verify, Report and Replace, each as what
+-- it answers and what it leaves in the buffer that it is lent, for all inputs. What each refuses is in checks, Refused.antt. Assumes nothing.
 use mathlib.Core.Bool.{Bool, false}
 use mathlib.Core.List.{List, _++_}
 use Prim.Native.Nat.{ℕ, suc, _-_}

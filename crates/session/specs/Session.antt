@@ -1,6 +1,6 @@
 -- Document 01, sessions: "A session carries its row sums and all three keys with it; each step takes the session and gives back the next."
--- Begin, Put and Close, each as what it refuses, the session that it gives and, of Close, what it leaves in the lent buffer, for all
--- sessions and inputs. Assumes nothing.
+-- Begin, which is handed the shelf's number (document 02, 2.3), Put and Close, each as what it refuses, the session that it gives and, of
+-- Close, what it leaves in the lent buffer, for all sessions and inputs. Assumes nothing.
 use mathlib.Core.Path.{_≡_}
 use mathlib.Core.Bool.{Bool, _&&_}
 use mathlib.Core.List.{List, [], _∷_, _++_}

@@ -5,6 +5,7 @@ use Rattle.blocks.specs.Number.{numberOf, number, bigEndian}
 use Rattle.incidence.specs.Count.{inside}
 use Rattle.incidence.proofs.Booleans.{and-left, and-right, and-false-l, and-false-r}
 use Rattle.blocks.proofs.Xor.{same-true, same-eq, take-bytes, drop-bytes}
+use Rattle.blocks.proofs.Loop.{front-kept, put-behind}
 use Rattle.blocks.proofs.Numbers.{bigEndian-length, number-bigEndian, bigEndian-number, number-below}
 use Rattle.stamp.specs.declared.Stamp.{Stamp}
 use Rattle.stamp.specs.Front.{numberSize, front, frontSize, stampFits, versionOf, stampOf, beginsAs}
@@ -86,7 +87,7 @@ module _ (letters : List ℕ) (h : length letters ≡ 3) (st : Stamp) (o o1 : Li
   five = let a = bigEndian-length 2 (st .version) in simp length-append (omega arith)
 
   pub put-length : 5 ≤ length o → length o1 ≡ length o
-  put-length l = ap length e1 ∙ length-append (letters ++ bigEndian 2 (st .version)) (drop 5 o) ∙ simp length-drop (omega (arith, five))
+  put-length l = front-kept (letters ++ bigEndian 2 (st .version)) o o1 5 five l e1
 
   pub front-first : st .version ≡ 1 → o1 ≡ front letters st ++ drop (frontSize (st .version)) o
   unfolding front frontSize bigEndian
@@ -99,11 +100,7 @@ module _ (letters : List ℕ) (h : length letters ≡ 3) (st : Stamp) (o o1 : Li
       → o2 ≡ front letters st ++ drop (frontSize (st .version)) o
   unfolding front frontSize
   front-later e o2 e2 =
-      let v = letters ++ bigEndian 2 (st .version) in
-      e2
-      ∙ ap₂ (λ (a b : List ℕ). a ++ (bigEndian 4 (st .number) ++ b)) (ap (take 5) e1 ∙ take-at v (drop 5 o) 5 five)
-      (sym (drop-drop 4 5 o1) ∙ ap (drop 4) (ap (drop 5) e1 ∙ drop-at v (drop 5 o) 5 five) ∙ drop-drop 4 5 o)
-      ∙ sym (append-assoc v (bigEndian 4 (st .number)) (drop 9 o))
+      put-behind (letters ++ bigEndian 2 (st .version)) (bigEndian 4 (st .number)) o o1 o2 5 4 five e1 e2
       ∙ ap (λ (t : List ℕ). t ++ drop 9 o) (append-assoc letters (bigEndian 2 (st .version)) (bigEndian 4 (st .number)))
       ∙ ap (λ (k : ℕ). (letters ++ (bigEndian 2 (st .version) ++ bigEndian k (st .number))) ++ drop (5 + k) o) (sym (size-later (st .version) e))
 
@@ -144,8 +141,8 @@ module _ (letters : List ℕ) (st : Stamp) (rest : List ℕ) (h : length letters
 -- ---- read, so laid out
 
 module _ (s : List ℕ) (h : Bytes s) (l : frontSize (versionOf s) ≤ length s) where
-  field : (at k : ℕ) → at + k ≤ length s → take k (drop at s) ≡ bigEndian k (number (take k (drop at s)))
-  field at k u =
+  bytes-at : (at k : ℕ) → at + k ≤ length s → take k (drop at s) ≡ bigEndian k (number (take k (drop at s)))
+  bytes-at at k u =
       let z : length (take k (drop at s)) ≡ k = simp (length-take, length-drop) (omega arith) in
       sym (bigEndian-number (take k (drop at s)) (take-bytes k (drop at s) (drop-bytes at s h)))
       ∙ ap (λ (m : ℕ). bigEndian m (number (take k (drop at s)))) z
@@ -155,7 +152,7 @@ module _ (s : List ℕ) (h : Bytes s) (l : frontSize (versionOf s) ≤ length s)
   front-is =
       let z = numberSize (versionOf s) in
       take-add 5 z s
-      ∙ ap₂ _++_ (take-add 3 2 s ∙ ap (λ (t : List ℕ). take 3 s ++ t) (field 3 2 (omega arith))) (field 5 z (omega arith))
+      ∙ ap₂ _++_ (take-add 3 2 s ∙ ap (λ (t : List ℕ). take 3 s ++ t) (bytes-at 3 2 (omega arith))) (bytes-at 5 z (omega arith))
       ∙ append-assoc (take 3 s) _ _
 
   -- the number is one that its bytes hold

@@ -1,8 +1,9 @@
 -- Header, tags and MAC written one behind the other are the tag file.
-use Rattle.fips197.proofs.Kit.{_≡_, sym, ap, ap₂, _∙_, List, _++_, append-assoc, ℕ, suc, _+_, _-_, _*_, _≤_, arith, length, take, drop, length-append, length-take, length-drop, take-at, drop-at, drop-drop}
+use Rattle.fips197.proofs.Kit.{_≡_, sym, ap, ap₂, _∙_, List, _++_, ℕ, suc, _+_, _-_, _*_, _≤_, arith, length, take, drop, length-append, length-take, length-drop, take-at}
 use Rattle.blocks.specs.Block.{slot, listOf}
 use Rattle.cipher.specs.Aes.{encipher}
 use Rattle.cipher.specs.Cmac.{cmac}
+use Rattle.blocks.proofs.Loop.{front-kept, put-behind}
 use Rattle.blocks.proofs.Slots.{listOf-length, listOf-ext}
 use Rattle.cipher.proofs.Laws.{cmac-length}
 use Rattle.sizes.specs.Sizes.{familyOf}
@@ -25,7 +26,7 @@ file-size h at t ea et = omega arith
 
 -- what is written in its place leaves the length
 pub headed-length : (h : Head) (o o1 : List ℕ) → tagsAt (h .stamp .version) ≤ length o → o1 ≡ header h ++ drop (tagsAt (h .stamp .version)) o → length o1 ≡ length o
-headed-length h o o1 l e = ap length e ∙ simp (length-append, length-drop) (omega (arith, header-length h))
+headed-length h o o1 l e = front-kept (header h) o o1 (tagsAt (h .stamp .version)) (header-length h) l e
 
 pub back-length : (xs ys new : List ℕ) (a n : ℕ) → a + n ≤ length xs → length new ≡ n → ys ≡ take a xs ++ (new ++ drop (a + n) xs) → length ys ≡ length xs
 back-length xs ys new a n h l e = ap length e ∙ simp (length-append, length-take, length-drop) (omega arith)
@@ -41,12 +42,7 @@ module _ (keys : Keys) (h : Head) (at t : ℕ) (sums o o1 o2 o3 : List ℕ) (hk 
   long = header-length h ∙ sym ea
 
   two : o2 ≡ (header h ++ tagsBy (encipher (keys .tag)) sums t) ++ drop (at + 16 * t) o
-  two =
-      e2
-      ∙ ap₂ (λ (a b : List ℕ). a ++ (tagsBy (encipher (keys .tag)) sums t ++ b))
-      (ap (take at) head-at ∙ take-at (header h) (drop at o) at long)
-      (sym (drop-drop (16 * t) at o1) ∙ ap (drop (16 * t)) (ap (drop at) head-at ∙ drop-at (header h) (drop at o) at long) ∙ drop-drop (16 * t) at o)
-      ∙ sym (append-assoc (header h) (tagsBy (encipher (keys .tag)) sums t) (drop (at + 16 * t) o))
+  two = put-behind (header h) (tagsBy (encipher (keys .tag)) sums t) o o1 o2 at (16 * t) long head-at e2
 
   whole : length (header h ++ tagsBy (encipher (keys .tag)) sums t) ≡ at + 16 * t
   whole = length-append (header h) (tagsBy (encipher (keys .tag)) sums t) ∙ ap₂ _+_ long (tags-length (keys .tag) sums t hk)
@@ -61,14 +57,9 @@ module _ (keys : Keys) (h : Head) (at t : ℕ) (sums o o1 o2 o3 : List ℕ) (hk 
   unfolding fileOf sealed body
   file-written =
       let b = header h ++ tagsBy (encipher (keys .tag)) sums t in
-      let z = file-size h at t ea et in
       let f = ap (take (at + 16 * t)) two ∙ take-at b (drop (at + 16 * t) o) (at + 16 * t) whole in
-      e3
-      ∙ ap₂ (λ (p q : List ℕ). p ++ (cmac (keys .seal) p ++ q)) f
-      (sym (drop-drop 16 (at + 16 * t) o2)
-      ∙ ap (drop 16) (ap (drop (at + 16 * t)) two ∙ drop-at b (drop (at + 16 * t) o) (at + 16 * t) whole)
-      ∙ drop-drop 16 (at + 16 * t) o ∙ ap (λ (k : ℕ). drop k o) (sym z))
-      ∙ sym (append-assoc b (cmac (keys .seal) b) (drop (fileSize h) o))
+      put-behind b (cmac (keys .seal) (take (at + 16 * t) o2)) o o2 o3 (at + 16 * t) 16 whole two e3
+      ∙ ap₂ (λ (p : List ℕ) (n : ℕ). (b ++ cmac (keys .seal) p) ++ drop n o) f (sym (file-size h at t ea et))
       ∙ ap (λ (s : List ℕ). ((header h ++ s) ++ cmac (keys .seal) (header h ++ s)) ++ drop (fileSize h) o) tags-are
 
 -- ---- files of equal sums
