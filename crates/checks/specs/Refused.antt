@@ -1,5 +1,5 @@
--- What each call on whole messages refuses (document 01, 'Calls and order of checks', with 25 of document 02, 2.3): one list a call, in document 01's order; the first
--- that applies is returned. `room` is the length of the buffer lent. Assumes nothing.
+-- What each call on whole messages refuses (document 01, 'Calls and order of checks', with 25 of document 02, 2.3): one list a call, in that
+-- order; the first that applies is returned. `room` is the length of the buffer lent. Assumes nothing.
 use mathlib.Core.List.{List, [], _∷_}
 use Prim.Native.Nat.{ℕ}
 use lib.Dec.{eqb}

@@ -1,5 +1,5 @@
--- The message file (document 01: shelf): "letters TBS, 2-byte version, 2-byte count, then for each card a 2-byte length and its bytes", with
--- the shelf's number behind the version in version 2 (document 02, 2.3). What is refused of it, where its items (cards) lie, and what Fetch
+-- The message file (document 01: shelf): "letters TBS, 2-byte version 1, 2-byte count, then for each card a 2-byte length and its bytes", and
+-- in version 2 the shelf's number behind the version (document 02, 2.3). What is refused of it, where its items (cards) lie, and what Fetch
 -- gives. Assumes nothing.
 use mathlib.Core.Path.{_≡_}
 use mathlib.Core.Bool.{Bool, _&&_}

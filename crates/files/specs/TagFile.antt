@@ -1,6 +1,6 @@
--- The tag file (document 01: sheet): "letters TBT, 2-byte version, 1-byte size code, 2-byte count, t tags of 16 bytes, seal of 16 bytes. The
--- seal is CMAC under the seal key of all bytes before it", with the shelf's number behind the version in version 2 (document 02, 2.3). What is
--- refused of it, and what it holds. Assumes nothing.
+-- The tag file (document 01: sheet): "letters TBT, 2-byte version 1, 1-byte size code, 2-byte count, t tags of 16 bytes, seal of 16 bytes",
+-- "The seal is CMAC under the seal key of all bytes before it", and in version 2 the shelf's number behind the version (document 02, 2.3). What
+-- is refused of it, and what it holds. Assumes nothing.
 use mathlib.Core.Path.{_≡_}
 use mathlib.Core.Bool.{Bool, true, _&&_}
 use mathlib.Core.List.{List, [], _∷_, _++_}

@@ -11,7 +11,7 @@ use Rattle.cipher.specs.Cmac.{cmac}
 use Rattle.stamp.specs.declared.Stamp.{Stamp}
 
 -- 000: F_K^j(M[j]); document 01: code of card j; document 02, 2.3: "A card's code now starts with the shelf number and the card number, 4
--- bytes each", followed by the card. In number 0 that is version 1's code (proofs/KeyedLaws.antt: first-version).
+-- bytes each", followed by the card. For number 0 that is version 1's code (proofs/KeyedLaws.antt: first-version).
 unfoldable pub itemHashBy : (List ℕ → List ℕ) → Stamp → ℕ → List ℕ → List ℕ
 itemHashBy mac st j item = mac ((bigEndian 4 (st .number) ++ bigEndian 4 j) ++ item)
 

@@ -25,8 +25,8 @@ unfoldable pub fields : List (List ℕ) → List ℕ
 fields [] = []
 fields (item ∷ rest) = field item ++ fields rest
 
--- "letters TBS, 2-byte version, 2-byte count, then for each card a 2-byte length and its bytes", with the shelf's number behind the version
--- in version 2 (document 02, 2.3)
+-- "letters TBS, 2-byte version 1, 2-byte count, then for each card a 2-byte length and its bytes", and in version 2 the shelf's number behind
+-- the version (document 02, 2.3)
 unfoldable pub messageOf : Stamp → List (List ℕ) → List ℕ
 messageOf st items = front messageLetters st ++ (bigEndian 2 (length items) ++ fields items)
 

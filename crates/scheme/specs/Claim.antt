@@ -35,7 +35,7 @@ unfoldable pub changed : (ℕ → List ℕ) → (ℕ → List ℕ) → ℕ → B
 changed old new j = not (same (old j) (new j))
 
 -- "A row cancels when it holds a changed card and the XOR of its cards' old codes equals that of their new ones": the old codes are taken
--- under the old message's stamp, and the new ones under that of the message reported.
+-- under the number of the old message, and the new ones under that of the message reported, both in the tag file's version.
 pub record RowCancels (F : Family) (keys : Keys) (before after : Stamp) (old new : ℕ → List ℕ) (n i : ℕ) : Type 0 where
   pub low : 1 ≤ i
   pub high : i ≤ F .rows

@@ -1,5 +1,5 @@
 -- What both files begin with (document 01, 'The two files'; document 02, 2.3): three letters, a 2-byte version and, behind it, the number
--- of the shelf. "Version 2 of both files carries a 4-byte shelf number directly after the version. Version 1 counts as number 0."
+-- of the shelf. "Version 2 of both files carries a 4-byte shelf number directly after the version." "Version 1 counts as number 0".
 -- Assumes nothing.
 use mathlib.Core.Bool.{Bool, _&&_}
 use mathlib.Core.List.{List, _++_}
@@ -37,7 +37,6 @@ versionOf s = number (take 2 (drop 3 s))
 unfoldable pub stampOf : List ℕ → Stamp
 stampOf s = record { version = versionOf s; number = number (take (numberSize (versionOf s)) (drop 5 s)) }
 
--- whether s begins as a file with these letters does: it has so many bytes at least, its letters, and one of the
--- versions 1 to `newest`
+-- whether s begins as a file with these letters does: it has so many bytes at least, its letters, and one of the versions 1 to `newest`
 unfoldable pub beginsAs : List ℕ → ℕ → ℕ → List ℕ → Bool
 beginsAs letters newest least s = (leb least (length s) && same (take 3 s) letters) && inside newest (versionOf s)
