@@ -1,6 +1,6 @@
 -- The tag file (document 01: sheet): "letters TBT, 2-byte version 1, 1-byte size code, 2-byte count, t tags of 16 bytes, seal of 16 bytes",
--- "The seal is CMAC under the seal key of all bytes before it", and in version 2 the shelf's number behind the version (document 02, 2.3). What
--- is refused of it, and what it holds. Assumes nothing.
+-- "The seal is CMAC under the seal key of all bytes before it", and in version 2 the shelf's number behind the version (document 02, 2.3);
+-- version 3 is "laid out as version 2" (2.5). What is refused of it, and what it holds. Assumes nothing.
 use mathlib.Core.Path.{_≡_}
 use mathlib.Core.Bool.{Bool, true, _&&_}
 use mathlib.Core.List.{List, [], _∷_, _++_}
@@ -26,9 +26,9 @@ unfoldable pub tagLetters : List ℕ
 tagLetters = 0x54 ∷ 0x42 ∷ 0x54 ∷ []
 
 unfoldable pub newestTagFile : ℕ
-newestTagFile = 2
+newestTagFile = 3
 
--- the stamp of a file made anew for a message's number: Tag and sessions "write version 2 sheets"
+-- the stamp of a file made anew for a message's number: "Tag and sessions write 3" (document 02, 2.5)
 unfoldable pub stampFor : ℕ → Stamp
 stampFor number = record { version = newestTagFile; number = number }
 
@@ -51,7 +51,7 @@ body h tags = header h ++ tags
 unfoldable pub sealed : List ℕ → List ℕ → List ℕ
 sealed key s = s ++ cmac key s
 
--- the length of the tag file that says h: 24+16t bytes in version 1, 28+16t in version 2
+-- the length of the tag file that says h: 24+16t bytes in version 1, 28+16t in versions 2 and 3
 unfoldable pub fileSize : Head → ℕ
 fileSize h = tagsAt (h .stamp .version) + 16 * familyOf (h .code) .tags + 16
 
@@ -82,7 +82,7 @@ macOf s = drop (length s - 16) s
 unfoldable pub countFits : ℕ → ℕ → Bool
 countFits c n = known c && (leb 1 n && leb n (familyOf c .items))
 
--- 6: "sheet under 24 bytes, wrong letters, version or size code, count outside 1 to m, or length not 24+16t"; in version 2 28 and 28+16t
+-- 6: "sheet under 24 bytes, wrong letters, version or size code, count outside 1 to m, or length not 24+16t"; in versions 2 and 3 28 and 28+16t
 unfoldable pub refuse6 : List ℕ → Refusal
 refuse6 s =
     unless (beginsAs tagLetters newestTagFile (tagsAt (versionOf s) + 16) s && (countFits (codeOf s) (countOf s) && eqb (length s) (fileSize (headOf s)))) 6 0

@@ -19,10 +19,10 @@ ghost use Rattle.files.specs.Message.{refuse8};
 ghost use Rattle.files.specs.TagFile.{stampFor, header, tagsAt, fileSize, codeOf, countOf, headOf, tagsIn, countFits, refuse6, refuse20};
 ghost use Rattle.files.specs.Arguments.{refuse7};
 
-// The letters, the newest version, and the most bytes of a file: version 2 with 82 tags.
+// The letters, the newest version, and the most bytes of a file: 82 tags in a version with a number.
 const LETTERS: [u8; 3] = *b"TBT";
 
-const NEWEST: u16 = 2;
+const NEWEST: u16 = 3;
 
 pub const MOST: usize = 1340;
 

@@ -1,6 +1,6 @@
--- The laws of row sums: made rows add up, a row without a changed place keeps its sum, a change of one place adds both values, and a
--- message's row sums are had back from those of its tagged rows.
-use Rattle.fips197.proofs.Kit.{_≡_, refl, sym, ap, ap₂, _∙_, subst, Bool, true, false, List, [], _∷_, _⊎_, inl, inr, ℕ, zero, suc, _≤_, _<_, arith, eqb, length, getD, eqb-true, eqb-false}
+-- The laws of row sums: values of zeros add nothing, made rows add up, a row without a changed place keeps its sum, a change of one place adds
+-- both values, and a message's row sums are had back from those of its tagged rows.
+use Rattle.fips197.proofs.Kit.{_≡_, refl, sym, ap, ap₂, _∙_, subst, Bool, true, false, _&&_, List, [], _∷_, _⊎_, inl, inr, ℕ, zero, suc, _≤_, _<_, arith, eqb, length, getD, eqb-true, eqb-false}
 use mathlib.Core.Bool.{xor}
 use Rattle.blocks.specs.Block.{if_then_else_, _⊕_, zeros}
 use Rattle.blocks.proofs.Xor.{⊕-comm, ⊕-assoc, ⊕-length, ⊕-self, ⊕-zeros, ⊕-cancel}
@@ -44,6 +44,39 @@ pub sum-never : (value : ℕ → List ℕ) (n : ℕ) → sumOver (λ j. false) v
 unfolding sumOver
 sum-never value zero = refl
 sum-never value (suc n) = sum-never value n
+
+-- a value of zeros adds nothing
+pub adds-nothing : (t : Bool) (s x : List ℕ) → length s ≡ 16 → (t ≡ true → x ≡ zeros 16) → (if t then s ⊕ x else s) ≡ s
+adds-nothing true s x l e = ap (λ (z : List ℕ). s ⊕ z) (e refl) ∙ ⊕-zeros s 16 (omega arith)
+adds-nothing false s x l e = refl
+
+-- so that places with one may be left out,
+pub sum-without : (p q : ℕ → Bool) (value : ℕ → List ℕ) (n : ℕ) → Values value → ((j : ℕ) → 1 ≤ j → j ≤ n → q j ≡ false → value j ≡ zeros 16)
+    → sumOver p value n ≡ sumOver (λ j. p j && q j) value n
+unfolding sumOver
+sum-without p q value zero v h = refl
+sum-without p q value (suc n) v h =
+    rw (sum-without p q value n v (λ j l u. h j l (omega arith))) (go (p (suc n)) (q (suc n)) (h (suc n) (omega arith) (omega arith)))
+  where
+    go : (a b : Bool) → (b ≡ false → value (suc n) ≡ zeros 16)
+        → (if a then sumOver (λ j. p j && q j) value n ⊕ value (suc n) else sumOver (λ j. p j && q j) value n)
+        ≡ (if a && b then sumOver (λ j. p j && q j) value n ⊕ value (suc n) else sumOver (λ j. p j && q j) value n)
+    go true true e = refl
+    go true false e = adds-nothing true _ (value (suc n)) (sum-length (λ j. p j && q j) value n v) (λ t. e refl)
+    go false b e = refl
+
+-- and so may those at the end
+pub sum-front : (p : ℕ → Bool) (value : ℕ → List ℕ) (m n : ℕ) → Values value → m ≤ n → ((j : ℕ) → m < j → j ≤ n → value j ≡ zeros 16)
+    → sumOver p value n ≡ sumOver p value m
+unfolding sumOver
+sum-front p value m zero v l h = let e : 0 ≡ m = omega arith in ap (sumOver p value) e
+sum-front p value m (suc n) v l h =
+    go (λ b. sum-front p value m n v b (λ j a c. h j a (omega arith))) (last-or m n l)
+  where
+    go : (m ≤ n → sumOver p value n ≡ sumOver p value m) → (m ≡ suc n) ⊎ (m ≤ n) → sumOver p value (suc n) ≡ sumOver p value m
+    go rest (inl e) = ap (sumOver p value) (sym e)
+    go rest (inr b) =
+        adds-nothing (p (suc n)) (sumOver p value n) (value (suc n)) (sum-length p value n v) (λ t. h (suc n) (omega arith) (omega arith)) ∙ rest b
 
 -- one more value on each side, where the sides differ in it or not
 add-xor : (a b : Bool) (s t x : List ℕ) → length s ≡ 16 → length t ≡ 16 → length x ≡ 16

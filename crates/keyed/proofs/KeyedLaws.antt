@@ -1,7 +1,7 @@
--- Hashes, masks and tags are blocks; a tag gives its sum back, and a sum its tag; what a key made ready or expanded gives is what the key
--- gives; and the walks over many blocks.
-use Rattle.fips197.proofs.Kit.{_≡_, refl, sym, ap, _∙_, List, _++_, ℕ, zero, suc, _+_, _*_, _%_, _≤_, _<_, arith, length, take, drop, length-take, length-drop}
-use Rattle.blocks.specs.Block.{Bytes, Block, _⊕_, zeros, slot, listOf}
+-- What the hash of a vacant place is, and of any other; hashes, masks and tags are blocks; a tag gives its sum back, and a sum its tag; what
+-- a key made ready or expanded gives is what the key gives; and the walks over many blocks.
+use Rattle.fips197.proofs.Kit.{_≡_, refl, sym, ap, _∙_, Bool, true, false, _&&_, and-false, List, [], _++_, ℕ, zero, suc, _+_, _*_, _%_, _≤_, _<_, arith, eqb, leb, length, take, drop, length-take, length-drop, ne-eqb, le-leb, lt-leb}
+use Rattle.blocks.specs.Block.{if_then_else_, Bytes, Block, _⊕_, zeros, slot, listOf}
 use Rattle.blocks.specs.Number.{bigEndian}
 use Rattle.cipher.specs.Aes.{keyExpansion, cipher, invCipher, encipher, decipher}
 use Rattle.cipher.specs.Cmac.{cmac, macWith, ready}
@@ -12,14 +12,43 @@ use Rattle.blocks.proofs.Doubling.{double-block}
 use Rattle.blocks.proofs.Slots.{Front, slot-length, place-next, second-walk}
 use Rattle.cipher.proofs.Laws.{with-length, inv-with-length, encipher-block, decipher-block, encipher-length, decipher-length, decipher-encipher, encipher-decipher, cmac-block, cmac-length, mac-ready}
 use Rattle.stamp.specs.declared.Stamp.{Stamp}
-use Rattle.keyed.specs.Keyed.{itemHash, itemHashBy, doubled, maskBy, tagBy, tagOf, sumBy, sumOfTag, tagsBy, sumsBy}
+use Rattle.keyed.specs.Keyed.{vacant, itemHash, itemHashBy, doubled, maskBy, tagBy, tagOf, sumBy, sumOfTag, tagsBy, sumsBy}
+
+-- ---- vacant places
+
+-- from version 3 on the empty item is one
+pub empty-vacant : (v : ℕ) → 3 ≤ v → vacant v [] ≡ true
+unfolding vacant
+empty-vacant v l = ap (λ (t : Bool). t && true) (le-leb 3 v l)
+
+-- and no other item is
+pub filled : (v : ℕ) (item : List ℕ) → 1 ≤ length item → vacant v item ≡ false
+unfolding vacant
+filled v item l = ap (λ (t : Bool). leb 3 v && t) (ne-eqb (length item) 0 (λ e. omega arith)) ∙ and-false (leb 3 v)
+
+-- before version 3 "Length 0 is a card like any other": none is
+pub none-vacant : (v : ℕ) (item : List ℕ) → v < 3 → vacant v item ≡ false
+unfolding vacant
+none-vacant v item l = ap (λ (t : Bool). t && eqb (length item) 0) (lt-leb 3 v l)
+
+-- a vacant place adds 16 zero bytes, by any MAC
+pub hash-vacant : (mac : List ℕ → List ℕ) (st : Stamp) (j : ℕ) (item : List ℕ) → vacant (st .version) item ≡ true → itemHashBy mac st j item ≡ zeros 16
+unfolding itemHashBy
+hash-vacant mac st j item e = ap (λ (t : Bool). if t then zeros 16 else mac ((bigEndian 4 (st .number) ++ bigEndian 4 j) ++ item)) e
+
+-- and any other item its code
+pub hash-filled : (mac : List ℕ → List ℕ) (st : Stamp) (j : ℕ) (item : List ℕ) → vacant (st .version) item ≡ false
+    → itemHashBy mac st j item ≡ mac ((bigEndian 4 (st .number) ++ bigEndian 4 j) ++ item)
+unfolding itemHashBy
+hash-filled mac st j item e = ap (λ (t : Bool). if t then zeros 16 else mac ((bigEndian 4 (st .number) ++ bigEndian 4 j) ++ item)) e
 
 -- ---- what is handed over for a key
 
 -- a key made ready
 pub hash-ready : (key : List ℕ) (k : MacKey) (st : Stamp) (j : ℕ) (item : List ℕ) → k ≡ ready key → itemHashBy (macWith k) st j item ≡ itemHash key st j item
 unfolding itemHashBy itemHash
-hash-ready key k st j item e = mac-ready key k ((bigEndian 4 (st .number) ++ bigEndian 4 j) ++ item) e
+hash-ready key k st j item e =
+    ap (λ (h : List ℕ). if vacant (st .version) item then zeros 16 else h) (mac-ready key k ((bigEndian 4 (st .number) ++ bigEndian 4 j) ++ item) e)
 
 pub hashes-ready : (key : List ℕ) (k : MacKey) (st : Stamp) (items : ℕ → List ℕ) → k ≡ ready key
     → _≡_ {A = ℕ → List ℕ} (λ j. itemHashBy (macWith k) st j (items j)) (λ j. itemHash key st j (items j))
@@ -37,30 +66,53 @@ sums-expanded key w s out rest n e o = o ∙ ap (λ (v : List ℕ). sumsBy (ciph
 
 -- ---- hashes
 
--- "Version 1 counts as number 0, with the same codes as before": CMAC "of j as 8 big-endian bytes followed by the card"
-pub first-version : (key : List ℕ) (st : Stamp) (j : ℕ) (item : List ℕ) → st .number ≡ 0 → j < 4294967296
+-- "Version 1 counts as number 0, with the same codes as before": CMAC "of j as 8 big-endian bytes followed by the card"; so has every
+-- version with number 0, of what is no vacant place
+pub first-version : (key : List ℕ) (st : Stamp) (j : ℕ) (item : List ℕ) → vacant (st .version) item ≡ false → st .number ≡ 0 → j < 4294967296
     → itemHash key st j item ≡ cmac key (bigEndian 8 j ++ item)
-unfolding itemHash itemHashBy
-first-version key st j item e l =
+unfolding itemHash
+first-version key st j item f e l =
     let z : 0 * 4294967296 + j % 4294967296 ≡ j = omega arith in
-    ap (λ (t : List ℕ). cmac key (t ++ item))
+    hash-filled (cmac key) st j item f
+    ∙ ap (λ (t : List ℕ). cmac key (t ++ item))
     (ap (λ (n : ℕ). bigEndian 4 n ++ bigEndian 4 j) e ∙ sym (bigEndian-pair 0 j) ∙ ap (bigEndian 8) z)
+
+-- under one number, what is vacant in neither of two versions has the same code in both
+pub same-code : (key : List ℕ) (st st′ : Stamp) (j : ℕ) (item : List ℕ) → vacant (st .version) item ≡ false → vacant (st′ .version) item ≡ false
+    → st .number ≡ st′ .number → itemHash key st j item ≡ itemHash key st′ j item
+unfolding itemHash
+same-code key st st′ j item f f′ e =
+    hash-filled (cmac key) st j item f
+    ∙ ap (λ (n : ℕ). cmac key ((bigEndian 4 n ++ bigEndian 4 j) ++ item)) e
+    ∙ sym (hash-filled (cmac key) st′ j item f′)
 
 -- a hash has 16 bytes, whatever the item
 pub itemHash-length : (key : List ℕ) → length key ≡ 16 → (st : Stamp) (j : ℕ) (item : List ℕ) → length (itemHash key st j item) ≡ 16
 unfolding itemHash itemHashBy
-itemHash-length key h st j item = cmac-length key h _
+itemHash-length key h st j item = go (vacant (st .version) item)
+  where
+    go : (t : Bool) → length (if t then zeros 16 else cmac key ((bigEndian 4 (st .number) ++ bigEndian 4 j) ++ item)) ≡ 16
+    go true = refl
+    go false = cmac-length key h _
 
 -- ---- blocks
 
 module _ (key : List ℕ) (hk : Block key) where
   pub itemHash-block : (st : Stamp) (j : ℕ) (item : List ℕ) → Bytes item → Block (itemHash key st j item)
   unfolding itemHash itemHashBy
-  itemHash-block st j item h =
-      let a = bigEndian 4 (st .number) in
-      let b = bigEndian 4 j in
-      cmac-block key hk ((a ++ b) ++ item)
-      (append-bytes (a ++ b) item (append-bytes a b (bigEndian-bytes 4 (st .number)) (bigEndian-bytes 4 j)) h)
+  itemHash-block st j item h = go (vacant (st .version) item)
+    where
+      a : List ℕ
+      a = bigEndian 4 (st .number)
+
+      b : List ℕ
+      b = bigEndian 4 j
+
+      go : (t : Bool) → Block (if t then zeros 16 else cmac key ((a ++ b) ++ item))
+      go true = zeros-block
+      go false =
+          cmac-block key hk ((a ++ b) ++ item)
+          (append-bytes (a ++ b) item (append-bytes a b (bigEndian-bytes 4 (st .number)) (bigEndian-bytes 4 j)) h)
 
   mask-block : (i : ℕ) → Block (maskBy (encipher key) i)
   unfolding maskBy doubled

@@ -1,19 +1,29 @@
 -- The keyed functions of the scheme (000, section 4.3: F and G; document 01, 'Keys and codes'), under a key. Those whose names end in By are
 -- over what a caller with many blocks hands over instead: the MAC `mac` of a key made ready, or the block cipher `ciph` under an expanded
 -- key, with `deciph` its inverse. Assumes nothing.
+use mathlib.Core.Bool.{Bool, _&&_}
 use mathlib.Core.List.{List, _++_}
 use Prim.Native.Nat.{ℕ, zero, suc}
-use Rattle.blocks.specs.Block.{_⊕_, zeros, slot, listOf}
+use lib.Dec.{eqb, leb}
+use lib.ListN.{length}
+use Rattle.blocks.specs.Block.{if_then_else_, _⊕_, zeros, slot, listOf}
 use Rattle.blocks.specs.Number.{bigEndian}
 use Rattle.blocks.specs.Double.{double}
 use Rattle.cipher.specs.Aes.{encipher, decipher}
 use Rattle.cipher.specs.Cmac.{cmac}
 use Rattle.stamp.specs.declared.Stamp.{Stamp}
 
+-- whether an item is a vacant place in version v of a tag file (document 02, 2.5): it has no bytes, and the version is 3 or above. Before
+-- it, "Length 0 is a card like any other."
+unfoldable pub vacant : ℕ → List ℕ → Bool
+vacant v item = leb 3 v && eqb (length item) 0
+
 -- 000: F_K^j(M[j]); document 01: code of card j; document 02, 2.3: "A card's code now starts with the shelf number and the card number, 4
--- bytes each", followed by the card. For number 0 that is version 1's code (proofs/KeyedLaws.antt: first-version).
+-- bytes each", followed by the card. For number 0 that is version 1's code (proofs/KeyedLaws.antt: first-version). Document 02, 2.5: a
+-- vacant place adds "16 zero bytes to its rows in place of a code".
 unfoldable pub itemHashBy : (List ℕ → List ℕ) → Stamp → ℕ → List ℕ → List ℕ
-itemHashBy mac st j item = mac ((bigEndian 4 (st .number) ++ bigEndian 4 j) ++ item)
+itemHashBy mac st j item =
+    if vacant (st .version) item then zeros 16 else mac ((bigEndian 4 (st .number) ++ bigEndian 4 j) ++ item)
 
 unfoldable pub itemHash : List ℕ → Stamp → ℕ → List ℕ → List ℕ
 itemHash key st j item = itemHashBy (cmac key) st j item

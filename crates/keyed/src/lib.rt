@@ -12,12 +12,22 @@ ghost use lib.ListN.{length, drop};
 ghost use Rattle.blocks.specs.Block.{_⊕_, slot, listOf};
 ghost use Rattle.cipher.specs.Aes.{cipher, invCipher};
 ghost use Rattle.cipher.specs.Cmac.{macWith};
-ghost use Rattle.keyed.specs.Keyed.{itemHashBy, doubled, maskBy, tagsBy, sumsBy};
+ghost use Rattle.keyed.specs.Keyed.{vacant, itemHashBy, doubled, maskBy, tagsBy, sumsBy};
 
-// The hash of item j of the message that has this stamp, under a key made ready (document 01: code of card j).
+// Whether an item is a vacant place in a version.
+fn vacant(version: u16, item: &[u8]) -> bool
+    ensures { λ r. ⌜ r ≡ vacant version (now (item .entry)) ⌝ }
+{
+    version >= 3 && item.len() == 0
+}
+
+// The hash of item j of the message that has this stamp, under a key made ready (document 01: code of card j); of a vacant place, zeros.
 pub fn item_hash(k: MacKey, stamp: Stamp, j: u64, item: &[u8]) -> [u8; 16]
     ensures { λ r. ⌜ r ≡ itemHashBy (macWith k) stamp j (now (item .entry)) ⌝ }
 {
+    if vacant(stamp.version, item) {
+        return [0u8; 16];
+    }
     let numbers = (stamp.number as u64) * 0x1_0000_0000 + j % 0x1_0000_0000;
     cmac::mac_of_parts(k, &block::to_be64(numbers), item)
 }

@@ -1,6 +1,6 @@
 -- What follows from the definitions of the calls, for a reader who wants to know what they are good for: Tag's file is accepted and
--- verified, a report against an unaltered file of either version is not refused, but by 25 where the numbers differ, Replace is tagging afresh, and demand 3 is met by no report that names
--- every item, none, or says "beyond" of an unchanged message.
+-- verified, a report against an unaltered file of any version is not refused, but by 25 where the numbers differ, Replace is tagging afresh,
+-- and demand 3 is met by no report that names every item, none, or says "beyond" of an unchanged message.
 use Rattle.fips197.proofs.Kit.{_≡_, refl, sym, ap, _∙_, Bool, true, false, List, [], _∷_, _++_, _↔_, ℕ, suc, _≤_, _<_, arith, length, drop, eq-eqb, ne-eqb, le-leb, lt-ltb}
 use Rattle.blocks.specs.Block.{if_then_else_, Bytes, _⊕_, same, listOf}
 use Rattle.blocks.proofs.Xor.{same-true, same-eq, take-bytes, drop-bytes, ⊕-assoc}
@@ -56,7 +56,7 @@ module _ (keys s f : List ℕ) (h : length keys ≡ 48) (a : refuse3 s ≡ none)
       verify-last ∙ ap (λ (r : Refusal). first (r ∷ [])) (unless-false _ 25 0 (ne-eqb (stampOf s .number) (stampOf f .number) n))
       ∙ first-here (refusal 25 0) [] (λ (z : 25 ≡ 0). omega arith)
 
--- a message that is not refused itself, and the unaltered file, in either version, of old items of the same count under these keys
+-- a message that is not refused itself, and the unaltered file, in any version, of old items of the same count under these keys
 module _ (keys s f : List ℕ) (b : Bytes keys) (k48 : length keys ≡ 48) (p : refuse3 s ≡ none) (q : refuse5 s ≡ none) (h : Head) (old : ℕ → List ℕ)
     (U : Unaltered (keysIn keys) h old f) (fit : countFits (h .code) (h .count) ≡ true) (count : h .count ≡ itemCount s) where
   says : headOf f ≡ h
@@ -148,7 +148,7 @@ verify-yes keys s f e =
 
 -- ---- Replace
 
--- an unaltered file of items, in either version, and a number among theirs
+-- an unaltered file of items, in any version, and a number among theirs
 module _ (keys : List ℕ) (b : Bytes keys) (k48 : length keys ≡ 48) (h : Head) (stamped : stampFits newestTagFile (h .stamp) ≡ true)
     (fit : countFits (h .code) (h .count) ≡ true) (items : ℕ → List ℕ) (bytes : (i : ℕ) → 1 ≤ i → i ≤ h .count → Bytes (items i))
     (j : ℕ) (low : 1 ≤ j) (high : j ≤ h .count) (new : List ℕ) where

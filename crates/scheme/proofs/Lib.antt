@@ -4,4 +4,5 @@ pub mod Comparing
 pub mod Unaltered
 pub mod Claiming
 pub mod Guarantees
+pub mod Vacancies
 pub mod StarredCards

@@ -1,5 +1,6 @@
--- Document 01, 'Calls and order of checks', with the versions and numbers of document 02, 2.3: Tag, Verify, Report and Replace, each as what
--- it answers and what it leaves in the buffer that it is lent, for all inputs. What each refuses is in checks, Refused.antt. Assumes nothing.
+-- Document 01, 'Calls and order of checks', with the versions, numbers and vacant places of document 02, 2.3 and 2.5: Tag, Verify, Report and
+-- Replace, each as what it answers and what it leaves in the buffer that it is lent, for all inputs. What each refuses is in checks,
+-- Refused.antt. Assumes nothing.
 use mathlib.Core.Bool.{Bool, false}
 use mathlib.Core.List.{List, _++_}
 use Prim.Native.Nat.{ℕ, suc, _-_}
@@ -31,7 +32,8 @@ tagWrites keys c s out =
 
 -- ---- Verify (keys, shelf, sheet): 1, 3, 5, 6, 20, 21, 25. "Yes when the shelf's tags equal the sheet's, else no."
 
--- what the items of message s are hashed under in version v: the number is the message's own, and the version is the tag file's
+-- what the items of message s are hashed under in version v: the number is the message's own, and the version is the tag file's. "The sheet's
+-- version decides the rule" (2.5).
 unfoldable pub stampIn : ℕ → List ℕ → Stamp
 stampIn v s = record { version = v; number = stampOf s .number }
 
@@ -83,7 +85,8 @@ reportRows keys s f out =
 
 -- ---- Replace (keys, sheet, card number, old card, new card): 1, 6, 20, 8, 9, 7
 
--- "Adds both codes to each tagged row of that card": the sum of tag k, had back and changed
+-- "Adds both codes to each tagged row of that card": the sum of tag k, had back and changed. An old or new item without bytes is a vacant
+-- place where the file's version says so: "Replace can thus withdraw a card (new length 0) or add one (old length 0)" (2.5).
 unfoldable pub replacedSum : Keys → List ℕ → ℕ → List ℕ → List ℕ → ℕ → List ℕ
 replacedSum keys f j old new k =
     if familyOf (codeOf f) .on (familyOf (codeOf f) .rowOfTag k) j
@@ -94,7 +97,7 @@ replacedSum keys f j old new k =
 unfoldable pub replacedItem : (ℕ → List ℕ) → ℕ → List ℕ → ℕ → List ℕ
 replacedItem items j new i = if eqb i j then new else items i
 
--- "and reseals into a second buffer"; "Replace keeps the version it is given", and the number
+-- "and reseals into a second buffer"; "Replace keeps that version", and the number
 unfoldable pub replaceWrites : List ℕ → List ℕ → ℕ → List ℕ → List ℕ → List ℕ → List ℕ
 replaceWrites keys f j old new out =
     if passes (replaceRefusal keys f j old new (length out))

@@ -30,12 +30,14 @@ pub record Unaltered (keys : Keys) (h : Head) (old : ℕ → List ℕ) (f : List
   pub bytes : (j : ℕ) → 1 ≤ j → j ≤ h .count → Bytes (old j)
   pub file : f ≡ tagFile keys h old
 
--- "A card has changed when that shelf and the shelf reported hold different bytes under its number."
+-- "A card has changed when that shelf and the shelf reported hold different bytes under its number." Hence "filled against vacant counted as
+-- a change" (document 02, 2.5): one of the two has no bytes.
 unfoldable pub changed : (ℕ → List ℕ) → (ℕ → List ℕ) → ℕ → Bool
 changed old new j = not (same (old j) (new j))
 
 -- "A row cancels when it holds a changed card and the XOR of its cards' old codes equals that of their new ones": the old codes are taken
--- under the number of the old message, and the new ones under that of the message reported, both in the tag file's version.
+-- under the number of the old message, and the new ones under that of the message reported, both in the tag file's version, "with a
+-- vacancy's code read as zero" (2.5).
 pub record RowCancels (F : Family) (keys : Keys) (before after : Stamp) (old new : ℕ → List ℕ) (n i : ℕ) : Type 0 where
   pub low : 1 ≤ i
   pub high : i ≤ F .rows

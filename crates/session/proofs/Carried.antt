@@ -1,8 +1,9 @@
--- The sums that a session carries: a value added to those of one item's tags.
-use Rattle.fips197.proofs.Kit.{_≡_, ap, _∙_, Bool, true, false, List, _++_, ℕ, suc, _-_, _*_, _≤_, _<_, arith, length, drop, length-append, length-drop, drop-at}
-use Rattle.blocks.specs.Block.{if_then_else_, _⊕_, slot, listOf}
+-- The sums that a session carries: a value added to those of one item's tags; zeros leave them as they are.
+use Rattle.fips197.proofs.Kit.{_≡_, refl, sym, ap, _∙_, Bool, true, false, List, _++_, ℕ, suc, _-_, _*_, _≤_, _<_, arith, length, drop, length-append, length-drop, drop-at}
+use Rattle.blocks.specs.Block.{if_then_else_, _⊕_, zeros, slot, listOf}
 use Rattle.blocks.proofs.Xor.{⊕-length}
 use Rattle.blocks.proofs.Slots.{slot-length, slot-listOf, listOf-length, listOf-ext}
+use Rattle.incidence.proofs.Sums.{adds-nothing}
 use Rattle.sizes.specs.Sizes.{familyOf}
 use Rattle.sizes.proofs.Laws.{tags-few}
 use Rattle.sums.specs.Adding.{sumIn, Added}
@@ -55,3 +56,14 @@ module _ (c j : ℕ) (value sums : List ℕ) (v : length value ≡ 16) (s : leng
             ∙ ap (λ (x : ℕ). if F .on (F .rowOfTag x) j then slot sums (t - 1) ⊕ value else slot sums (t - 1)) e;
         rest = drop-at (listOf block m) (drop (16 * m) sums) (16 * m) l;
       }
+
+pub zeros-added : (c j : ℕ) (sums : List ℕ) → length sums ≡ 1312 → addedToTags c j (zeros 16) sums ≡ sums
+unfolding sumIn
+zeros-added c j sums h =
+    let F = familyOf c in
+    sym (added-is c j (zeros 16) sums sums h
+    (record {
+      size = refl;
+      sums = λ t l u. sym (adds-nothing (F .on (F .rowOfTag t) j) (slot sums (t - 1)) (zeros 16) (slot-length sums (t - 1) (omega (arith, sums-fit c sums h))) (λ e. refl));
+      rest = refl;
+    }))

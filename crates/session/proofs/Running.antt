@@ -1,27 +1,28 @@
 -- A run of a session: Begin, a Put for each item, Close. What the session carries after each step (`taken-all`); that a run gets to its
 -- end (`accepts`, `runs`); that Close then writes the file that Tag's rule gives for the items put (`closes`); and what a run cannot do:
--- put one item more (`full`), close before the last (`early`), or go on after Close (`shut`).
-use Rattle.fips197.proofs.Kit.{_≡_, refl, sym, ap, _∙_, subst, true, List, _++_, _⊎_, inl, inr, ℕ, zero, suc, _+_, _≤_, _<_, le-of-suc-le-suc, eq-or-lt-of-le, add-one, arith, leb, length, drop, eq-eqb, ne-eqb, le-leb, lt-ltb, le-ltb}
+-- put one item more (`full`), close before the last (`early`), or go on after Close (`shut`). Last, a put of a vacant place (`put-vacant`).
+use Rattle.fips197.proofs.Kit.{_≡_, refl, sym, ap, _∙_, subst, true, List, [], _∷_, _++_, _⊎_, inl, inr, ℕ, zero, suc, _+_, _≤_, _<_, le-of-suc-le-suc, eq-or-lt-of-le, add-one, arith, leb, length, drop, eq-eqb, ne-eqb, le-leb, lt-ltb, le-ltb}
 use Rattle.blocks.specs.Block.{zeros, slot}
 use Rattle.blocks.proofs.Slots.{slot-length}
+use Rattle.cipher.specs.Cmac.{cmac}
 use Rattle.sizes.specs.Sizes.{known, familyOf}
 use Rattle.sizes.proofs.Laws.{tags-few}
 use Rattle.files.specs.Refusals.{refusal, none, first}
 use Rattle.files.specs.declared.tagfile.Head.{Head}
-use Rattle.files.specs.TagFile.{stampFor, headFor, fileSize, countFits}
+use Rattle.files.specs.TagFile.{newestTagFile, stampFor, headFor, fileSize, countFits}
 use Rattle.files.specs.Arguments.{refuse7, refuse9}
 use Rattle.incidence.proofs.Booleans.{and-left, and-both}
 use Rattle.files.proofs.Passing.{unless-true, unless-false, given}
 use Rattle.keyed.specs.Keyed.{itemHash}
-use Rattle.keyed.proofs.KeyedLaws.{itemHash-length}
+use Rattle.keyed.proofs.KeyedLaws.{empty-vacant, hash-vacant, itemHash-length}
 use Rattle.sums.specs.Adding.{sumIn, Holds}
 use Rattle.tagging.specs.Tagging.{keysIn, hashes, tagSum, fileOf, tagFile}
 use Rattle.tagging.proofs.Summing.{zero-sums, summed-first, summed-next}
 use Rattle.tagging.proofs.Writing.{file-same}
 use Rattle.session.specs.declared.Session.{Session}
 use Rattle.session.specs.Session.{closed, isOpen, sessionHead, refuse22, refuse23, refuse24, beginRefusal, beginGives, putRefusal, addedToTags, withItem, putGives, closeRefusal, closeGives, closeWrites, after}
-use Rattle.session.proofs.Carried.{tags-added}
-use Rattle.session.proofs.Stepping.{first-same, none-of, begin-tells, put-tells}
+use Rattle.session.proofs.Carried.{tags-added, zeros-added}
+use Rattle.session.proofs.Stepping.{first-same, none-of, begin-tells, put-tells, with-item-is}
 
 module _ (keys : List ℕ) (c n number : ℕ) (items : ℕ → List ℕ) where
   -- Begin and the first k puts pass: they refuse nothing
@@ -182,3 +183,18 @@ module _ (keys : List ℕ) (c n number : ℕ) (items : ℕ → List ℕ) where
 pub shut : (item out : List ℕ) → (putRefusal closed item ≡ refusal 24 0) × (closeRefusal closed out ≡ refusal 24 0)
 unfolding putRefusal closeRefusal refuse24 isOpen closed countFits known first
 shut item out = (refl, refl)
+
+-- Document 02, 2.5: a put of an empty item is refused for the session alone; where it passes it adds nothing to the sums, and counts as an item.
+pub put-vacant : (s : Session) → length (s .sums) ≡ 1312
+    → (putRefusal s [] ≡ first (refuse24 s ∷ refuse22 s ∷ []))
+    × (putRefusal s [] ≡ none
+    → putGives s [] ≡ record { number = s .number; code = s .code; count = s .count; taken = s .taken + 1; keys = s .keys; sums = s .sums })
+unfolding putRefusal putGives refuse9 first stampFor newestTagFile itemHash
+put-vacant s h =
+    let st = stampFor (s .number) in
+    let j = s .taken + 1 in
+    let zero-hash = hash-vacant (cmac (s .keys .item)) st j [] (empty-vacant 3 (omega arith)) in (
+      refl,
+      λ e. sym (given none (putRefusal s []) (sym e) (withItem s []) s refl)
+          ∙ sym (with-item-is s [] (s .sums) (sym (ap (λ (x : List ℕ). addedToTags (s .code) j x (s .sums)) zero-hash ∙ zeros-added (s .code) j (s .sums) h))),
+    )

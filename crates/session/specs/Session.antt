@@ -29,7 +29,7 @@ closed =
 unfoldable pub isOpen : Session → Bool
 isOpen s = countFits (s .code) (s .count) && leb (s .taken) (s .count)
 
--- what the tag file of a session says: sessions write the newest version, with the number begun with
+-- what the tag file of a session says: "sessions write 3", the newest version, with the number begun with
 unfoldable pub sessionHead : Session → Head
 sessionHead s = headFor (stampFor (s .number)) (s .code) (s .count)
 
@@ -70,7 +70,7 @@ addedToTags c j value sums =
     listOf (λ k. if familyOf c .on (familyOf c .rowOfTag (suc k)) j then slot sums k ⊕ value else slot sums k) (familyOf c .tags)
     ++ drop (16 * familyOf c .tags) sums
 
--- the session with one item more: "a put still adds its code"
+-- the session with one item more: "a put still adds its code", and for a vacant place zeros (document 02, 2.5)
 unfoldable pub withItem : Session → List ℕ → Session
 withItem s item = record {
   number = s .number;

@@ -1,5 +1,6 @@
 -- What both files begin with (document 01, 'The two files'; document 02, 2.3): three letters, a 2-byte version and, behind it, the number
--- of the shelf. "Version 2 of both files carries a 4-byte shelf number directly after the version." "Version 1 counts as number 0".
+-- of the shelf. "Version 2 of both files carries a 4-byte shelf number directly after the version." "Version 1 counts as number 0". Sheet
+-- version 3 is "laid out as version 2" (2.5).
 -- Assumes nothing.
 use mathlib.Core.Bool.{Bool, _&&_}
 use mathlib.Core.List.{List, _++_}
