@@ -1,4 +1,4 @@
-// Document 01's bench cards that are not starred, and each refusal in each call that can give it, in both versions of the files. A line of
+// Document 01's bench cards that are not starred, and each refusal in each call that can give it, in every version of the files. A line of
 // `stdin` is a case, in the words of trial's `line`: what comes out is said behind it, and `stdout`, typed in from documents 01 and 02, has
 // what is right.
 fn main() {

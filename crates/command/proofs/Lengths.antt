@@ -1,8 +1,9 @@
 -- How long the lines and the name are at most: a number below 2^64 has at most 20 digits.
-use Rattle.fips197.proofs.Kit.{_≡_, ap, List, ℕ, _+_, _^_, _≤_, _<_, arith, length, length-append}
+use Rattle.fips197.proofs.Kit.{_≡_, refl, ap, Bool, true, false, List, ℕ, _+_, _^_, _≤_, _<_, arith, eqb, length, length-append, eq-eqb, ne-eqb}
+use Rattle.blocks.specs.Block.{if_then_else_}
 use Rattle.printing.specs.Text.{ascii, labelled}
 use Rattle.printing.proofs.Lengths.{decimal-64}
-use Rattle.command.specs.Said.{countLine, messageLine, itemLine, temporaryName}
+use Rattle.command.specs.Said.{countLine, messageLine, itemEnd, itemLine, temporaryName}
 
 -- at the front
 pub room-front : (room long most : ℕ) → long ≤ most → most ≤ room → 0 + long ≤ room
@@ -21,9 +22,26 @@ message-short n number h k =
     let l : number < 2 ^ 64 = omega arith in
     simp length-append (omega (arith, decimal-64 n h, decimal-64 number l))
 
-pub item-short : (j long : ℕ) → j < 2 ^ 64 → long < 2 ^ 64 → length (itemLine j long) ≤ 53
+-- the two ends of a card's line
+pub end-vacant : (long : ℕ) → long ≡ 0 → ascii " vacant\n" ≡ itemEnd long
+unfolding itemEnd
+end-vacant long h = rw (eq-eqb long 0 h) refl
+
+pub end-filled : (long : ℕ) → (long ≡ 0 → ⊥) → ascii "\n" ≡ itemEnd long
+unfolding itemEnd
+end-filled long h = rw (ne-eqb long 0 h) refl
+
+end-short : (long : ℕ) → length (itemEnd long) ≤ 8
+unfolding itemEnd ascii
+end-short long = go (eqb long 0)
+  where
+    go : (t : Bool) → length (if t then ascii " vacant\n" else ascii "\n") ≤ 8
+    go true = omega arith
+    go false = omega arith
+
+pub item-short : (j long : ℕ) → j < 2 ^ 64 → long < 2 ^ 64 → length (itemLine j long) ≤ 60
 unfolding itemLine labelled ascii
-item-short j long h k = simp length-append (omega (arith, decimal-64 j h, decimal-64 long k))
+item-short j long h k = simp length-append (omega (arith, decimal-64 j h, decimal-64 long k, end-short long))
 
 pub temporary-short : (name : List ℕ) (process : ℕ) → process < 2 ^ 64 → length (temporaryName name process) ≤ length name + 25
 unfolding temporaryName labelled ascii

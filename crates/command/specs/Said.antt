@@ -1,6 +1,8 @@
 -- The lines that the command prints beside the report program's, and the name of a file that is not whole yet. Assumes nothing.
 use mathlib.Core.List.{List, _++_}
 use Prim.Native.Nat.{ℕ}
+use lib.Dec.{eqb}
+use Rattle.blocks.specs.Block.{if_then_else_}
 use Rattle.printing.specs.Text.{ascii, labelled}
 
 -- how many cards a message has
@@ -11,9 +13,13 @@ countLine n = labelled "cards " n ++ ascii "\n"
 unfoldable pub messageLine : ℕ → ℕ → List ℕ
 messageLine n number = labelled "cards " n ++ labelled " number " number ++ ascii "\n"
 
+-- how the line of a card of so many bytes ends: one of none is a vacant place (document 02, 2.5)
+unfoldable pub itemEnd : ℕ → List ℕ
+itemEnd long = if eqb long 0 then ascii " vacant\n" else ascii "\n"
+
 -- card j and how many bytes it has
 unfoldable pub itemLine : ℕ → ℕ → List ℕ
-itemLine j long = labelled "card " j ++ labelled " bytes " long ++ ascii "\n"
+itemLine j long = labelled "card " j ++ labelled " bytes " long ++ itemEnd long
 
 -- the name under which a file is written until it is whole: a dot, the process number and `.new` behind its own
 unfoldable pub temporaryName : List ℕ → ℕ → List ℕ

@@ -126,7 +126,7 @@ pub fn fetch() {
 }
 
 fn say_card(j: usize, long: usize) -> bool {
-    let mut line = [0u8; 53];
+    let mut line = [0u8; 60];
     let e = lines::put_item_line(&mut line, 0, j, long);
     say::result(&line[0..e])
 }

@@ -1,5 +1,6 @@
-// The command for people: packs card files into a message file, with a number or without, tags it, verifies and reports it, replaces a card
-// in its tag file, and lists and fetches its cards. What it computes is proved in the crates below; here it reads and writes.
+// The command for people: packs card files into a message file, with a number or without, tags it, verifies and reports it, replaces,
+// withdraws and adds a card in its tag file, and lists and fetches its cards. What it computes is proved in the crates below; here it reads
+// and writes.
 mod cards;
 mod heads;
 mod input;
@@ -19,8 +20,19 @@ fn run(word: &[u8]) {
         judging::verify();
     } else if check::same(word, b"report") {
         judging::report();
-    } else if check::same(word, b"replace") {
+    } else {
+        run_change(word);
+    }
+}
+
+// The commands that change a card in a tag file.
+fn run_change(word: &[u8]) {
+    if check::same(word, b"replace") {
         tagfiles::replace();
+    } else if check::same(word, b"withdraw") {
+        tagfiles::withdraw();
+    } else if check::same(word, b"add") {
+        tagfiles::add();
     } else {
         run_small(word);
     }

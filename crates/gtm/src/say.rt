@@ -25,6 +25,20 @@ pub fn usage(fd: i32) {
         fd,
         b"gtm pack-numbered NUMBER OUT FILE..       the same, with a number of its own\n",
     );
+    usage_with_keys(fd);
+    io::write_all(
+        fd,
+        b"gtm fetch SHELF NUMBER                    one card's bytes\n",
+    );
+    io::write_all(
+        fd,
+        b"gtm list SHELF                            the cards, their lengths and the vacant places\n",
+    );
+    io::write_all(fd, b"gtm help                                  this text\n");
+}
+
+// The lines of the commands that take keys.
+fn usage_with_keys(fd: i32) {
     io::write_all(
         fd,
         b"gtm tag KEYS SIZE SHELF OUT               the sheet of a shelf; SIZE is 1 to 4\n",
@@ -40,13 +54,12 @@ pub fn usage(fd: i32) {
     );
     io::write_all(
         fd,
-        b"gtm fetch SHELF NUMBER                    one card's bytes\n",
+        b"gtm withdraw KEYS SHEET NUMBER OLD OUT    a sheet with one card withdrawn: its place is vacant\n",
     );
     io::write_all(
         fd,
-        b"gtm list SHELF                            the cards and their lengths\n",
+        b"gtm add KEYS SHEET NUMBER NEW OUT         a sheet with a card added at a vacant place\n",
     );
-    io::write_all(fd, b"gtm help                                  this text\n");
 }
 
 // Says what is wrong with the words, and how they are used.

@@ -1,6 +1,7 @@
-// Tag and replace: the commands that write a tag file.
+// Tag, replace, withdraw and add: the commands that write a tag file.
 use crate::heads;
 use crate::input;
+use crate::input::Got;
 use crate::output;
 use crate::say;
 use crate::words;
@@ -55,15 +56,32 @@ pub fn tag() {
     }
 }
 
-// Reads the two card files and replaces card j.
-fn replace_cards(keys: &[u8], tags: &[u8], j: u64) {
+// Which words name the old card, the new one and the output, which is the last word. 0 stands for no word: that card is empty.
+struct Change {
+    old: usize,
+    new: usize,
+    out: usize,
+}
+
+// Reads the card file that word i names, none for 0; says what fails.
+fn read_card(i: usize, buf: &mut [u8]) -> Got
+    ensures { λ r. ⌜ r .n ≤ length (now (buf .exit)) ⌝ }
+{
+    if i == 0 {
+        return Got { ok: true, n: 0 };
+    }
+    input::read(i, buf)
+}
+
+// Reads the cards and replaces card j.
+fn change_card(keys: &[u8], tags: &[u8], j: u64, change: Change) {
     let mut old = [0u8; input::CARD];
-    let o = input::read(5, &mut old);
+    let o = read_card(change.old, &mut old);
     if !o.ok {
         return;
     }
     let mut new = [0u8; input::CARD];
-    let n = input::read(6, &mut new);
+    let n = read_card(change.new, &mut new);
     if !n.ok {
         return;
     }
@@ -71,10 +89,11 @@ fn replace_cards(keys: &[u8], tags: &[u8], j: u64) {
     let b = n.n;
     let mut out = [0u8; tagfile::MOST];
     let r = scheme::replace(keys, tags, j, &old[0..a], &new[0..b], &mut out);
-    finish(r, 7, &out);
+    finish(r, change.out, &out);
 }
 
-fn replace_as(j: u64) {
+// Reads keys and tag file first.
+fn change_as(j: u64, change: Change) {
     let mut keys = [0u8; input::KEYS];
     let k = input::read(2, &mut keys);
     if !k.ok {
@@ -87,15 +106,44 @@ fn replace_as(j: u64) {
     }
     let a = k.n;
     let b = t.n;
-    replace_cards(&keys[0..a], &tags[0..b], j);
+    change_card(&keys[0..a], &tags[0..b], j, change);
 }
 
-pub fn replace() {
-    if !words::exactly(8) {
+// Looks at the words before that.
+fn change_by(change: Change)
+    requires { ⌜ change .out ≤ 7 ⌝ }
+{
+    if !words::exactly(change.out + 1) {
         return;
     }
     let number = words::number(4);
     if number.ok {
-        replace_as(number.value);
+        change_as(number.value, change);
     }
+}
+
+pub fn replace() {
+    change_by(Change {
+        old: 5,
+        new: 6,
+        out: 7,
+    });
+}
+
+// The new card is empty.
+pub fn withdraw() {
+    change_by(Change {
+        old: 5,
+        new: 0,
+        out: 6,
+    });
+}
+
+// The old card is empty.
+pub fn add() {
+    change_by(Change {
+        old: 0,
+        new: 5,
+        out: 6,
+    });
 }

@@ -1,6 +1,6 @@
 // Whole shelves of every size, a line of `stdin` a case in the words of trial's `line`: sessions and Replace against Tag, and reports with 0, 1,
-// d and d + 1 altered cards, in both versions, with a number and without. `stdout` has what is right, counted from document 01's difference
-// lists. Last, the session whose cards are too long for one shelf.
+// d and d + 1 cards altered, withdrawn or added, in every version, with a number and without, with vacant places and without. `stdout` has
+// what is right, counted from document 01's difference lists. Last, the session whose cards are too long for one shelf.
 use trial::inputs;
 use trial::inputs::KEYS;
 use trial::say;
@@ -43,7 +43,7 @@ fn by_session() -> [u8; 476] {
     out
 }
 
-// The 64 cards are too long for one shelf, until the last is replaced by the empty card.
+// The 64 cards are too long for one shelf, until the last is withdrawn.
 fn long_session() {
     let mut out = [0u8; 476];
     scheme::replace(&KEYS, &by_session(), 64, &[0u8; 1024], b"", &mut out);

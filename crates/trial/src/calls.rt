@@ -34,7 +34,7 @@ fn wrote(out: &[u8]) {
     say::number(judge::written(out) as u64);
 }
 
-// Whether the buffer is as Tag leaves it for this shelf, in a version.
+// Whether the buffer is as Tag's rule leaves it for this shelf, in a version.
 fn compared(keys: &[u8], size: u64, shelf: &[u8], version: u64, out: &[u8]) {
     let tags = sheets::tagged(keys, size, shelf, version, [0xa5u8; 1400]);
     let same = check::same(out, front(&tags, out.len()));
@@ -71,7 +71,7 @@ fn report(keys: &[u8], shelf: &[u8], sheet: &[u8], out: &mut [u8]) {
     wrote(out);
 }
 
-fn replace(keys: &[u8], sheet: &[u8], n: &[u64; 21], bytes: &[u8], out: &mut [u8]) {
+fn replace(keys: &[u8], sheet: &[u8], n: &[u64; 22], bytes: &[u8], out: &mut [u8]) {
     let old = given::part(bytes, given::OLD, n[given::OLD]);
     let new = given::part(bytes, given::NEW, n[given::NEW]);
     let shelf = given::part(bytes, given::SHELF, n[given::SHELF]);
@@ -136,12 +136,12 @@ fn close(s: Session, keys: &[u8], size: u64, shelf: &[u8], out: &mut [u8]) {
     stepped(s, r, step.session);
     wrote(out);
     if r.number == 0 {
-        compared(keys, size, shelf, 2, out);
+        compared(keys, size, shelf, 3, out);
     }
 }
 
 // Runs the call that a number of NAMES stands for.
-fn run_into(call: usize, n: &[u64; 21], bytes: &[u8], out: &mut [u8]) {
+fn run_into(call: usize, n: &[u64; 22], bytes: &[u8], out: &mut [u8]) {
     let shelf = given::part(bytes, given::SHELF, n[given::SHELF]);
     let keys = given::part(bytes, given::KEYS, n[given::KEYS]);
     let sheet = given::part(bytes, given::SHEET, n[given::SHEET]);
@@ -167,7 +167,7 @@ fn run_into(call: usize, n: &[u64; 21], bytes: &[u8], out: &mut [u8]) {
 // The same for Fetch and the calls of a session.
 fn run_of_cards(
     call: usize,
-    n: &[u64; 21],
+    n: &[u64; 22],
     bytes: &[u8],
     keys: &[u8],
     shelf: &[u8],
@@ -194,7 +194,7 @@ fn run_of_cards(
 }
 
 // Says a line, runs its call, and says what came out.
-pub fn run(line: &[u8], call: usize, n: &[u64; 21], bytes: &[u8]) {
+pub fn run(line: &[u8], call: usize, n: &[u64; 22], bytes: &[u8]) {
     let lent = room(n[given::LENT]);
     let mut out = [0xa5u8; 1400];
     say::text(line);

@@ -7,9 +7,9 @@ ghost use Prim.Native.Nat.{_≤_, _<_};
 ghost use lib.ListN.{length};
 
 // The words by their places among the numbers. The first five are arguments of bytes, and their numbers are lengths.
-pub const WORDS: [u8; 152] =
+pub const WORDS: [u8; 160] =
     *b"shelf   keys    sheet   old     new     size    count   card    lent    \
-    puts    taken   closed  byte    is      flip    cards   altered version number  ";
+    puts    taken   closed  byte    is      flip    cards   altered version number  vacant  ";
 
 pub const SHELF: usize = 0;
 
@@ -49,14 +49,16 @@ pub const VERSION: usize = 17;
 
 pub const NUMBER: usize = 18;
 
-// Behind the words: a number that is not 0 where some word was none of them, and which argument of bytes was named last.
-pub const UNKNOWN: usize = 19;
+const VACANT: usize = 19;
 
-const LAST: usize = 20;
+// Behind the words: a number that is not 0 where some word was none of them, and which argument of bytes was named last.
+pub const UNKNOWN: usize = 20;
+
+const LAST: usize = 21;
 
 // Where a line does not say otherwise: a shelf of two cards, the keys, the shelf's sheet of size 1, both files of version 1, its card 1 by the
 // letter b.
-pub const USUAL: [u64; 21] = [
+pub const USUAL: [u64; 22] = [
     12,
     48,
     88,
@@ -75,6 +77,7 @@ pub const USUAL: [u64; 21] = [
     0,
     0,
     1,
+    0,
     0,
     0,
     0,
@@ -126,8 +129,8 @@ pub fn put_usual(bytes: &mut [u8])
 }
 
 // Sets the number of a word.
-pub fn set(n: &mut [u64; 21], w: usize, v: u64)
-    requires { ⌜ w < 20 ⌝ }
+pub fn set(n: &mut [u64; 22], w: usize, v: u64)
+    requires { ⌜ w < 21 ⌝ }
 {
     n[w] = v;
     if w < 5 {
@@ -173,7 +176,7 @@ fn widen(bytes: &mut [u8], n: u64) -> u64
 }
 
 // Gives the shelf a number: it is of version 2 then.
-fn number(n: &mut [u64; 21], bytes: &mut [u8], v: u64)
+fn number(n: &mut [u64; 22], bytes: &mut [u8], v: u64)
     requires { ⌜ 72192 ≤ length (now bytes) ⌝ }
 {
     n[SHELF] = widen(bytes, n[SHELF]);
@@ -184,13 +187,28 @@ fn number(n: &mut [u64; 21], bytes: &mut [u8], v: u64)
 // Where the first card of the shelf stands, behind its length.
 fn first_card(bytes: &[u8]) -> usize
     requires { ⌜ 72192 ≤ length (now bytes) ⌝ }
-    ensures { λ r. ⌜ r ≤ 13 ⌝ }
+    ensures { λ r. ⌜ (2 ≤ r) × (r ≤ 13) ⌝ }
 {
     message::items_at(stamp::version_of(bytes)) + 2
 }
 
+// Takes away the bytes of card j of a shelf whose cards up to it have two bytes each; gives how long the shelf is then.
+fn vacate(bytes: &mut [u8], n: u64, j: u64) -> u64
+    requires { ⌜ 72192 ≤ length (now bytes) ⌝ }
+{
+    let before = (j % 274 + 273) % 274;
+    let at = first_card(bytes) + 4 * before as usize;
+    let long = (n % 65538) as usize;
+    if long < at + 2 {
+        return n;
+    }
+    inputs::put_number(bytes, at - 2, 0);
+    inputs::move_back(bytes, at + 2, long);
+    (long - 2) as u64
+}
+
 // Makes the bytes that a word with its number stands for.
-pub fn make(n: &mut [u64; 21], bytes: &mut [u8], w: usize, v: u64)
+pub fn make(n: &mut [u64; 22], bytes: &mut [u8], w: usize, v: u64)
     requires { ⌜ 72192 ≤ length (now bytes) ⌝ }
 {
     if w == SHEET {
@@ -208,6 +226,10 @@ pub fn make(n: &mut [u64; 21], bytes: &mut [u8], w: usize, v: u64)
     }
     if w == NUMBER {
         number(n, bytes, v);
+        return;
+    }
+    if w == VACANT {
+        n[SHELF] = vacate(bytes, n[SHELF], v);
         return;
     }
     alter(bytes, n[LAST], n[BYTE], w, v);

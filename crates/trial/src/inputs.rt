@@ -55,7 +55,18 @@ pub fn move_on(shelf: &mut [u8], from: usize, n: usize)
     }
 }
 
-// Alters the cards a + 1 to e of such a shelf, the first of which stands at a place: card j then holds j + 4,096.
+// Moves the bytes from a place up to n back by two places.
+pub fn move_back(shelf: &mut [u8], from: usize, n: usize)
+    requires { ⌜ (2 ≤ from) × (n ≤ length (now shelf)) ⌝ }
+{
+    let mut i = from;
+    while i < n {
+        shelf[i - 2] = shelf[i];
+        i += 1;
+    }
+}
+
+// Alters the cards a + 1 to e of a shelf of short cards, the first of which stands at a place: card j then holds j + 4,096.
 pub fn alter(shelf: &mut [u8], first: usize, a: usize, e: usize)
     requires { ⌜ (first + 4 * e ≤ length (now shelf)) × (first ≤ 13) × (e ≤ 273) ⌝ }
 {
@@ -78,7 +89,7 @@ pub fn most_cards(code: u64) -> usize
     }
 }
 
-// Document 02, 2.3: how long a size's sheet of version 2 is, and where its tags start.
+// Document 02, 2.3 and 2.5: how long a size's sheet of version 2 or 3 is, and where its tags start.
 pub fn sheet_length(code: u64) -> usize
     ensures { λ r. ⌜ (92 ≤ r) × (r ≤ 1340) ⌝ }
 {

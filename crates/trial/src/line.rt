@@ -4,12 +4,13 @@
 //     sheet N                         the same of the sheet of the shelf as it is by then, for the size and in the version given by then
 //     byte P is V, byte P flip V      the byte P of the argument named last is V, or has the bits of V flipped
 //     size N, count N, card N         the size code, a session's count, a card number
-//     version N                       the version of a sheet: 1 where a line does not say otherwise
+//     version N                       the version of a sheet, 1 to 3: 1 where a line does not say otherwise
 //     number N                        the shelf as it is by then is of version 2 and has the number N, which a session is also begun with
 //     lent N                          how many bytes are lent, at most 1,400
 //     puts N, taken N, closed 1       of a session: so many cards of the shelf were put, then the field is overwritten, then it was closed
 //     cards N                         the shelf is one of N cards of two bytes, each with its number
 //     altered N                       cards 3 to 2 + N of such a shelf are altered
+//     vacant J                        card J of such a shelf has no bytes from then on; of several, the last is named first
 use crate::calls;
 use crate::given;
 use bytes::scan;
@@ -65,12 +66,12 @@ fn place_in(list: &[u8], n: usize, w: &[u8]) -> usize
 }
 
 // Does what the word and the number at a place say; gives the place behind them.
-fn step(line: &[u8], at: usize, n: &mut [u64; 21], bytes: &mut [u8]) -> usize
+fn step(line: &[u8], at: usize, n: &mut [u64; 22], bytes: &mut [u8]) -> usize
     requires { ⌜ (at < length (now line)) × (72192 ≤ length (now bytes)) ⌝ }
     ensures { λ r. ⌜ (at < r) × (r ≤ length (now (line .entry))) ⌝ }
 {
     let from = behind(line, at);
-    let w = place_in(&given::WORDS, 19, word(line, at));
+    let w = place_in(&given::WORDS, 20, word(line, at));
     let p = numbers::number_in(word(line, from));
     given::set(n, w, p.value);
     given::make(n, bytes, w, p.value);
@@ -78,7 +79,7 @@ fn step(line: &[u8], at: usize, n: &mut [u64; 21], bytes: &mut [u8]) -> usize
 }
 
 // Does what the words from a place on say.
-fn steps(line: &[u8], from: usize, n: &mut [u64; 21], bytes: &mut [u8])
+fn steps(line: &[u8], from: usize, n: &mut [u64; 22], bytes: &mut [u8])
     requires { ⌜ (from ≤ length (now line)) × (72192 ≤ length (now bytes)) ⌝ }
 {
     let mut at = from;

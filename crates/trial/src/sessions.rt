@@ -32,7 +32,7 @@ fn with_taken(s: Session, taken: u64) -> Session {
 }
 
 // The session that put and close are called of.
-pub fn given(n: &[u64; 21], bytes: &[u8]) -> Session {
+pub fn given(n: &[u64; 22], bytes: &[u8]) -> Session {
     let keys = given::part(bytes, given::KEYS, n[given::KEYS]);
     let shelf = given::part(bytes, given::SHELF, n[given::SHELF]);
     let step = session::begin(

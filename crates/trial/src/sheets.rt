@@ -1,25 +1,42 @@
-// Sheets of both versions, each in 1,400 bytes that it is handed.
-use crate::inputs;
-use blocks::block;
-use files::tagfile;
+// Sheets of every version, each in 1,400 bytes that it is handed.
+use files::tagfile::Head;
+use stamp::Stamp;
+ghost use lib.ListN.{length};
+ghost use Rattle.checks.specs.Passed.{Taggable};
 
-// A sheet of version 2 of a size as one of version 1: without its number, and sealed anew by the usual keys. The tags are the same where the
-// number is 0.
-fn in_version_1(sheet: [u8; 1400], size: u64, room: [u8; 1400]) -> [u8; 1400] {
+// The sheet that Tag's rule gives for a shelf that Tag does not refuse, in a version.
+fn in_version(keys: &[u8], size: u64, shelf: &[u8], version: u16, room: [u8; 1400]) -> [u8; 1400]
+    requires { ⌜ Taggable (now keys) size (now shelf) (length room) ⌝ }
+{
+    let k = tagging::keys_in(keys);
+    let newest = tagging::head_for(size, shelf);
+    let own = newest.stamp;
+    let stamp = Stamp {
+        version,
+        number: own.number,
+    };
+    let mut sums = [0u8; sums::TAGS_MOST];
+    tagging::sum_tags(size, k, stamp, shelf, &mut sums);
+    let head = Head {
+        stamp,
+        code: size,
+        count: newest.count,
+    };
     let mut out = room;
-    let end = inputs::sheet_length(size) - 16;
-    inputs::put(&mut out, 0, b"TBT\x00\x01");
-    inputs::put(&mut out, 5, &sheet[9..end]);
-    tagfile::seal(block::block_at(&inputs::KEYS, 32), &mut out, end - 4);
+    tagging::write_file(head, k, &sums, &mut out);
     out
 }
 
-// Tag's sheet of a shelf, in a version.
+// The sheet of a shelf in a version: Tag's own in the version that Tag writes, and by its rule in another. Where Tag refuses, the bytes
+// stay.
 pub fn tagged(keys: &[u8], size: u64, shelf: &[u8], version: u64, room: [u8; 1400]) -> [u8; 1400] {
     let mut sheet = room;
     let r = scheme::tag(keys, size, shelf, &mut sheet);
-    if r.number == 0 && version == 1 {
-        return in_version_1(sheet, size, room);
+    if r.number != 0 {
+        return room;
     }
-    sheet
+    if version == 3 {
+        return sheet;
+    }
+    in_version(keys, size, shelf, (version % 65536) as u16, room)
 }
