@@ -53,7 +53,7 @@ static void lay_out(struct setting *s, unsigned size, unsigned cards, size_t len
         for (size_t k = 0; k < len; k++) s->shelf[s->shelf_len + 2 + k] = (uint8_t)rand();
         s->shelf_len += 2 + len;
     }
-    s->sheet_len = second_sheet_len(2, size);
+    s->sheet_len = second_sheet_len(3, size);
     memcpy(s->altered, s->shelf, s->shelf_len);
     for (unsigned j = 0; j < changed && j < cards; j++) s->altered[7 + j * (2 + len) + 2] ^= 1;
 }

@@ -1,5 +1,5 @@
-/* An example firmware main: a shelf of seven recipe cards in memory is tagged, damaged, reported and repaired, and its
- * sheet is held against the shelf of another season. */
+/* An example firmware main: a shelf of seven recipe cards in memory is tagged, damaged, reported and repaired. A card is
+ * changed, one withdrawn and one added, and the sheet is held against the shelf of another season. */
 #include "gtm.h"
 
 #include <stdio.h>
@@ -7,11 +7,13 @@
 #include <string.h>
 
 #define CARDS 7
+#define SHEET 92 /* bytes of a sheet of size 1 */
 
 enum { SPRING = 1, AUTUMN = 2 }; /* the shelves' numbers */
 
 static const uint8_t keys[48] = "card key 16 bytetag key, 16 byteseal key 16 byt";
 
+/* Place 4 is vacant. */
 static const char *cards[CARDS] = {"amber 40 smoke 2", "barley 25 malt 8", "cocoa 12 salt 1", "", "elder 7", "fig 30 rum 5", "ginger 3"};
 
 /* Lays the cards out as a shelf: letters, version 2, the shelf's number, count, then each card behind its length.
@@ -44,49 +46,70 @@ static uint64_t must(const char *call, uint64_t result)
     return result;
 }
 
-int main(void)
+/* Says what a report finds, and which cards to load again. */
+static void report(const char *when, const uint8_t *shelf, size_t len, const uint8_t *sheet)
 {
     static const char *const answers[] = {"intact", "named", "beyond"};
-    static uint8_t shelf[256], sheet[GTM_SHEET_MAX], repaired[GTM_SHEET_MAX], marks[GTM_CARDS_MAX];
-    const size_t sheet_len = 92; /* of size 1 */
+    uint8_t marks[CARDS];
+    uint64_t r = must("report", gtm_report(keys, sizeof keys, shelf, len, sheet, SHEET, marks, sizeof marks));
+    printf("%s: %s, %u named, %u rows disagree\n", when, answers[gtm_answer(r)], gtm_named(r), gtm_rows(r));
+    for (unsigned j = 0; j < CARDS; j++)
+        if (marks[j])
+            printf("reload card %u\n", j + 1);
+}
+
+static void verify(const char *what, const uint8_t *shelf, size_t len, const uint8_t *sheet)
+{
+    uint64_t r = must("verify", gtm_verify(keys, sizeof keys, shelf, len, sheet, SHEET));
+    printf("%s: %s\n", what, gtm_yes(r) ? "yes" : "no");
+}
+
+/* Puts another card in a place, and makes the sheet that goes with it from the old sheet: no other card is read for it. */
+static void replace(unsigned number, const char *new_card, const uint8_t *old_sheet, uint8_t *new_sheet)
+{
+    const char *old_card = cards[number - 1];
+    must("replace", gtm_replace(keys, sizeof keys, old_sheet, SHEET, number, (const uint8_t *)old_card, strlen(old_card),
+                                (const uint8_t *)new_card, strlen(new_card), new_sheet, SHEET));
+    cards[number - 1] = new_card;
+}
+
+int main(void)
+{
+    static uint8_t shelf[256], sheet[SHEET], changed[SHEET], withdrawn[SHEET], added[SHEET], marks[CARDS];
     uint64_t r;
 
     /* Tag the shelf once and keep the sheet beside it. */
     size_t len = build(shelf, SPRING);
     must("tag", gtm_tag(keys, sizeof keys, 1, shelf, len, sheet, sizeof sheet));
-    printf("tagged %d cards, %zu bytes of shelf, %zu of sheet\n", CARDS, len, sheet_len);
+    printf("tagged %d cards, %zu bytes of shelf, %d of sheet\n", CARDS, len, SHEET);
 
-    /* A bit of card 2 flips in storage: the report names the card. */
+    /* A bit of card 2 flips in storage: the report names the card. Then it is loaded again. */
     shelf[11 + 2 + strlen(cards[0]) + 2] ^= 1;
-    r = must("report", gtm_report(keys, sizeof keys, shelf, len, sheet, sheet_len, marks, sizeof marks));
-    printf("after damage: %s, %u named, %u rows disagree\n", answers[gtm_answer(r)], gtm_named(r), gtm_rows(r));
-    for (unsigned j = 0; j < CARDS; j++)
-        if (marks[j])
-            printf("reload card %u\n", j + 1);
-
-    /* The card is loaded again. */
+    report("after damage", shelf, len, sheet);
     len = build(shelf, SPRING);
-    r = must("report", gtm_report(keys, sizeof keys, shelf, len, sheet, sheet_len, marks, sizeof marks));
-    printf("after reload: %s, %u named, %u rows disagree\n", answers[gtm_answer(r)], gtm_named(r), gtm_rows(r));
+    report("after reload", shelf, len, sheet);
 
-    /* Card 5 is changed on purpose: its share of the tags is replaced, and no other card is read for it. */
-    const char *old_card = cards[4], *new_card = "elder 9 honey 4";
-    must("replace", gtm_replace(keys, sizeof keys, sheet, sheet_len, 5, (const uint8_t *)old_card, strlen(old_card),
-                                (const uint8_t *)new_card, strlen(new_card), repaired, sizeof repaired));
-    cards[4] = new_card;
+    /* Card 5 is changed on purpose. */
+    replace(5, "elder 9 honey 4", sheet, changed);
     len = build(shelf, SPRING);
-    r = must("verify", gtm_verify(keys, sizeof keys, shelf, len, sheet, sheet_len));
-    printf("new shelf, old sheet: %s\n", gtm_yes(r) ? "yes" : "no");
-    r = must("verify", gtm_verify(keys, sizeof keys, shelf, len, repaired, sheet_len));
-    printf("new shelf, new sheet: %s\n", gtm_yes(r) ? "yes" : "no");
+    verify("new shelf, old sheet", shelf, len, sheet);
+    verify("new shelf, new sheet", shelf, len, changed);
+
+    /* The blend of card 6 is dropped, and its place stands vacant; a new blend takes place 4. */
+    replace(6, "", changed, withdrawn);
+    len = build(shelf, SPRING);
+    verify("card 6 withdrawn, new sheet", shelf, len, withdrawn);
+    replace(4, "dill 6 mint 2", withdrawn, added);
+    len = build(shelf, SPRING);
+    verify("card 4 added, new sheet", shelf, len, added);
 
     /* A sheet cut short is refused, and the refusal has a number. */
-    r = gtm_verify(keys, sizeof keys, shelf, len, repaired, sheet_len - 1);
+    r = gtm_verify(keys, sizeof keys, shelf, len, added, SHEET - 1);
     printf("sheet cut short: refused %u place %u\n", gtm_number(r), (unsigned)gtm_place(r));
 
     /* So is the sheet of another shelf, though keys and cards are the same. */
     len = build(shelf, AUTUMN);
-    r = gtm_report(keys, sizeof keys, shelf, len, repaired, sheet_len, marks, sizeof marks);
+    r = gtm_report(keys, sizeof keys, shelf, len, added, SHEET, marks, sizeof marks);
     printf("autumn shelf, spring sheet: refused %u place %u\n", gtm_number(r), (unsigned)gtm_place(r));
     return 0;
 }

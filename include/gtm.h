@@ -6,8 +6,15 @@
  *
  * A shelf has a number, 0 to 4,294,967,295, which its sheet repeats: a sheet of another shelf is told by it and
  * refused, even where keys and count are the same. Both files carry it from version 2 on. Version 1 is still read and
- * counts as number 0, so the two files may be of different versions. gtm_tag writes sheets of version 2; gtm_replace
- * keeps the version and the number of the sheet that it is given.
+ * counts as number 0, so the two files may be of different versions.
+ *
+ * A card of length 0 is a vacant place, and a sheet of version 3 counts it as no card: it adds nothing to the tags. To
+ * a sheet of version 1 or 2 it is a card like any other. The sheet's version decides; a shelf has no version 3. To
+ * every report a place that was filled or emptied is an altered card. gtm_replace withdraws a card (new length 0) or
+ * adds one at a vacant place (old length 0).
+ *
+ * gtm_tag writes sheets of version 3, which are laid out as those of version 2; gtm_replace keeps the version and the
+ * number of the sheet that it is given.
  *
  * Any pointer that a length of 0 goes with may be null. Otherwise a pointer has to be valid for its length; nothing
  * else is asked of a caller: any bytes, lengths and numbers may be handed over. The buffer that a call writes must not
@@ -23,9 +30,9 @@
  *   4  count 0 or above the cards of the size                                       gtm_tag
  *   5  a card too long or running past the end, or bytes left over
  *      (place: the first such card, or count + 1)                                   gtm_tag, gtm_verify, gtm_report
- *   6  not a sheet: letters, version, size, count, or another length than
- *      version and size ask for                                                     gtm_verify, gtm_report, gtm_replace
- *   7  the buffer lent is shorter than the output: a sheet of version 2, a byte
+ *   6  not a sheet: letters, a version that is not 1, 2 or 3, size, count, or
+ *      another length than version and size ask for                                 gtm_verify, gtm_report, gtm_replace
+ *   7  the buffer lent is shorter than the output: a sheet of version 3, a byte
  *      for each card, or a sheet as long as the one given                           gtm_tag, gtm_report, gtm_replace
  *   8  card number 0 or above the sheet's count                                     gtm_replace
  *   9  handed card over 1,024 bytes (place: 1 old, 2 new)                           gtm_replace
@@ -57,7 +64,7 @@ extern "C" {
 #define GTM_SHEET_MAX 1340
 #define GTM_CARDS_MAX 273
 
-/* Writes the sheet of a shelf, in version 2. */
+/* Writes the sheet of a shelf, in version 3. */
 uint64_t gtm_tag(const uint8_t *keys, size_t keys_len, uint64_t size, const uint8_t *shelf, size_t shelf_len, uint8_t *sheet,
                  size_t sheet_len);
 
@@ -71,7 +78,8 @@ uint64_t gtm_report(const uint8_t *keys, size_t keys_len, const uint8_t *shelf, 
                     size_t sheet_len, uint8_t *marks, size_t marks_len);
 
 /* Writes the sheet for the shelf with one card replaced, as long as the one given and of its version. The old card has
- * to be the one that was tagged: another goes unnoticed. */
+ * to be the one that was tagged: another goes unnoticed. With new_len 0 the card is withdrawn and its place is vacant;
+ * with old_len 0 a card is added at a vacant place. */
 uint64_t gtm_replace(const uint8_t *keys, size_t keys_len, const uint8_t *sheet, size_t sheet_len, uint64_t number, const uint8_t *old_card,
                      size_t old_len, const uint8_t *new_card, size_t new_len, uint8_t *out, size_t out_len);
 

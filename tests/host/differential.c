@@ -4,8 +4,9 @@
  *
  * The first cases are listed ones, about versions, heads and the room for a sheet, whose cards are random; the others are random altogether.
  * Every buffer handed over lies against a page that may not be touched, in front of it or behind it. Compared are the result, every byte of the
- * lent buffer, the bytes around it, and that no input was changed. A case depends on the seed and its own number alone, so that a third argument runs
- * a single case again. */
+ * lent buffer, the bytes around it, and that no input was changed. What the second implementation gives is held against the requirements too: a card
+ * replaced is the shelf tagged afresh, and a report names the cards that demand 3 says. A case depends on the seed and its own number alone, so that a
+ * third argument runs a single case again. */
 #define _DEFAULT_SOURCE
 #include "gtm.h"
 #include "inputs.h"
@@ -94,8 +95,8 @@ static void check_part(const struct part *p)
         }
 }
 
-static struct draft cards;     /* what the shelf was made of */
-static unsigned sheet_version; /* of the sheet, before damage */
+static struct draft cards, tagged; /* what the shelf was made of, and for a report the one that its sheet was made of */
+static unsigned sheet_version;     /* of the sheet, before damage */
 
 static size_t sheet_head(void)
 {
@@ -110,7 +111,7 @@ static void reseal(void)
         second_cmac(keys.bytes + 32, sheet.bytes, sheet.len - 16, sheet.bytes + sheet.len - 16);
 }
 
-/* The same sheet laid out in the other version, with or without a number; its codes stay what they were. */
+/* The same sheet laid out in a version with a number, or in the one without; its codes stay what they were. */
 static void change_layout(uint32_t number)
 {
     uint8_t *b = sheet.bytes;
@@ -118,11 +119,12 @@ static void change_layout(uint32_t number)
         memmove(b + 9, b + 5, sheet.len - 5);
         put_four(b + 5, number);
         sheet.len += 4;
+        put_two(b + 3, 2 + below(2));
     } else {
         memmove(b + 5, b + 9, sheet.len - 9);
         sheet.len -= 4;
+        put_two(b + 3, 1);
     }
-    put_two(b + 3, 3 - sheet_version);
 }
 
 static void damage_sheet(void)
@@ -162,7 +164,7 @@ static void damage_sheet(void)
         if (second_tag_in(sheet_version, keys.bytes, 48, other, shelf.bytes, shelf.len, b, sheet.len).number != 0) {
             memcpy(b, "TBT", 3);
             put_two(b + 3, sheet_version);
-            if (sheet_version == 2)
+            if (sheet_version != 1)
                 put_four(b + 5, cards.number);
             b[head - 3] = (uint8_t)other;
             put_two(b + head - 2, count);
@@ -173,7 +175,7 @@ static void damage_sheet(void)
         second_cmac(keys.bytes + 16 * below(2), b, sheet.len - 16, b + sheet.len - 16);
         return;
     case 13: put_two(b + 3, label(below(2 * FIXED_LABELS))); break;
-    case 14: put_two(b + 3, 3 - sheet_version); break;
+    case 14: put_two(b + 3, another_sheet_version(sheet_version)); break;
     case 15: change_layout(numbers[below(COUNT(numbers))]); break;
     case 16: /* another number; in version 1 its bytes are others */
         put_four(b + 5, numbers[below(COUNT(numbers))]);
@@ -200,7 +202,7 @@ static void lend_output(size_t len)
 {
     size_t less = len ? len - 1 : 0;
     const size_t lengths[] = {len, len, len, len, len, len + 1, len + below(100), len + below(3000), less, below((unsigned)less + 1), 0,
-                              len + below(9) - (len < 4 ? 0 : 4)}; /* the two versions of a sheet are 4 bytes apart */
+                              len + below(9) - (len < 4 ? 0 : 4)}; /* a sheet with a number has 4 bytes more */
     out.len = lengths[below(COUNT(lengths))];
     fill(out.bytes, out.len);
 }
@@ -210,8 +212,15 @@ static void lend_output(size_t len)
 enum call { TAG, VERIFY, REPORT, REPLACE };
 static const char *const call_names[] = {"tag", "verify", "report", "replace"};
 static unsigned long seen[4][256], answers[3], verdicts[2], left_over, bad_cards, long_old, long_new;
-static unsigned long mixes[4][3][3], refused_mixes[3][3]; /* done, and refused by 25: by the versions of shelf and sheet, 0 where there is none */
+static unsigned long mixes[4][3][4], refused_mixes[3][4]; /* done, and refused by 25: by the versions of shelf and sheet, 0 where there is none */
 static unsigned long one_byte, sealed_first, counted_first; /* 25 for one byte; 20 and 21 where the numbers differ too */
+static unsigned long no_shelf[4], no_sheet[5];              /* refused, by versions that there are not */
+static unsigned long said_other[4];                         /* done: sheets of version 2 that say 3 and the reverse, by what they say */
+static unsigned long shares[3];                             /* shelves tagged: no place vacant, some, all */
+static unsigned long replaced[4][4];                        /* by the sheet's version: a card by a card, added, withdrawn, vacant by vacant */
+static unsigned long turned[4][4];                          /* and cards of reports: added, named of them; withdrawn, named of them */
+static unsigned long premises[4][2];                        /* and reports in which no row cancels, and in which one does */
+static unsigned long unseen[2];                             /* added and withdrawn in a shelf that is intact by version 3: their code is zero */
 
 static uint64_t some_size_code(void)
 {
@@ -234,13 +243,27 @@ static uint64_t some_card_number(unsigned number)
 static void some_card(struct part *p)
 {
     const unsigned too_long[] = {1025, 1025, 1025, 1026, 2048, 65536, 65536 + 16, 70000};
-    p->len = one_in(8) ? too_long[below(COUNT(too_long))] : some_length(one_in(20) ? 4 : below(3));
+    p->len = one_in(8) ? too_long[below(COUNT(too_long))] : one_in(4) ? 0 : some_length(one_in(20) ? 4 : below(3));
     fill(p->bytes, p->len);
+}
+
+/* Counts a refused file with the right letters that says version 0, or the first above those that there are. */
+static void count_no_version(const struct part *p, const char *letters, unsigned versions, unsigned long by[])
+{
+    unsigned version = p->len < 28 ? 1 : p->bytes[3] * 256u + p->bytes[4];
+    if (memcmp(p->bytes, letters, 3) == 0 && (version == 0 || version == versions + 1))
+        by[version]++;
 }
 
 /* Counts what the versions and numbers of the files had to do with the outcome. */
 static void count_versions(enum call call, unsigned number)
 {
+    if (number == 0 && call != TAG && sheet_version != 1 && sheet.bytes[4] != sheet_version)
+        said_other[sheet.bytes[4]]++;
+    if (number == 3)
+        count_no_version(&shelf, "TBS", SHELF_VERSIONS, no_shelf);
+    if (number == 6)
+        count_no_version(&sheet, "TBT", SHEET_VERSIONS, no_sheet);
     if (number == 0 && call == REPLACE) {
         mixes[call][0][sheet.bytes[4]]++;
     } else if (number == 0) {
@@ -282,7 +305,9 @@ static void compare(enum call call, uint64_t library, struct result second)
         check_part(all_parts[i]);
 }
 
-/* The second implementation against itself: a card replaced is the shelf tagged afresh, in the sheet's version. */
+/* ---- The second implementation against itself ---- */
+
+/* A card replaced is the shelf tagged afresh, in the sheet's version. */
 static void check_replaced(unsigned number)
 {
     static uint8_t fresh[GTM_SHEET_MAX];
@@ -294,6 +319,81 @@ static void check_replaced(unsigned number)
     second_tag_in(sheet_version, keys.bytes, 48, cards.size, shelf.bytes, shelf.len, fresh, sizeof fresh);
     if (memcmp(fresh, out.bytes, sheet.len) != 0)
         differs("replaced and tagged afresh", 0, 0);
+}
+
+/* Which cards differ between the shelves tagged and reported, filled against vacant among the rest, and the XOR of their old and new codes. */
+static uint8_t differ[MOST_CARDS + 1], moved[MOST_CARDS + 1][16];
+
+static void compare_cards(void)
+{
+    for (unsigned j = 1; j <= cards.count; j++) {
+        uint8_t code[16];
+        differ[j] = tagged.len[j] != cards.len[j] || memcmp(tagged.card[j], cards.card[j], cards.len[j]) != 0;
+        second_code(keys.bytes, sheet_version, tagged.number, j, tagged.card[j], tagged.len[j], moved[j]);
+        second_code(keys.bytes, sheet_version, cards.number, j, cards.card[j], cards.len[j], code);
+        for (int k = 0; k < 16; k++)
+            moved[j][k] ^= code[k];
+    }
+}
+
+/* Whether a row holds a changed card and its old and new codes have equal XORs. */
+static int cancels(unsigned row)
+{
+    static const uint8_t zero[16] = {0};
+    uint8_t sum[16] = {0};
+    int holds = 0;
+    for (unsigned j = 1; j <= cards.count; j++) {
+        if (!differ[j] || !second_on_row(cards.size, row, j))
+            continue;
+        holds = 1;
+        for (int k = 0; k < 16; k++)
+            sum[k] ^= moved[j][k];
+    }
+    return holds && memcmp(sum, zero, 16) == 0;
+}
+
+static int some_row_cancels(void)
+{
+    for (unsigned row = 1; row <= planes[cards.size].cards; row++)
+        if (cancels(row))
+            return 1;
+    return 0;
+}
+
+/* Counts the cards that were added and withdrawn. */
+static void count_turned(struct result r)
+{
+    unsigned long *by = turned[sheet_version];
+    for (unsigned j = 1; j <= cards.count; j++) {
+        int was_vacant = tagged.len[j] == 0, is_vacant = cards.len[j] == 0;
+        if (was_vacant == is_vacant)
+            continue;
+        by[was_vacant ? 0 : 2]++;
+        by[was_vacant ? 1 : 3] += out.bytes[j - 1];
+        unseen[was_vacant ? 0 : 1] += sheet_version == 3 && r.answer == 0;
+    }
+}
+
+/* Demand 3: a report against the unaltered sheet names no unchanged card while at most d changed; and where no row cancels, it names every
+ * changed card and gives the answer that goes with their number. */
+static void check_detection(struct result r)
+{
+    unsigned limit = planes[cards.size].limit, changes = 0, missed = 0, wrong = 0;
+    compare_cards();
+    int premise = !some_row_cancels();
+    for (unsigned j = 1; j <= cards.count; j++) {
+        changes += differ[j];
+        missed += differ[j] && !out.bytes[j - 1];
+        wrong += !differ[j] && out.bytes[j - 1];
+    }
+    if (changes <= limit && wrong != 0)
+        differs("unchanged cards named", wrong, 0);
+    if (premise && missed != 0)
+        differs("changed cards not named", missed, 0);
+    if (premise && r.answer != (changes == 0 ? 0 : changes <= limit ? 1 : 2))
+        differs("the answer where so many changed", (unsigned)r.answer, changes);
+    premises[sheet_version][premise ? 0 : 1]++;
+    count_turned(r);
 }
 
 /* ---- The listed cases ---- */
@@ -327,8 +427,8 @@ static void list_calls(struct plan plan)
 {
     int of_shelf = plan.about == SHELF_CUT || plan.about == SHELF_LABEL;
     for (int call = TAG; call <= REPLACE; call++)
-        for (unsigned a = 1; a <= 2; a++)
-            for (unsigned b = 1; b <= 2; b++) {
+        for (unsigned a = 1; a <= SHELF_VERSIONS; a++)
+            for (unsigned b = 1; b <= SHEET_VERSIONS; b++) {
                 if ((call == TAG && (!of_shelf || b == 1)) || (call == REPLACE && (of_shelf || a == 1)))
                     continue;
                 plan.call = (enum call)call;
@@ -338,18 +438,14 @@ static void list_calls(struct plan plan)
             }
 }
 
+/* Numbers of shelf and sheet, in the versions that can say them. */
 static void list_numbers(uint32_t a, uint32_t b)
 {
     for (int call = VERIFY; call <= REPORT; call++)
-        for (int about = NUMBERS; about <= NUMBERS_AND_ROOM; about++) {
-            list((struct plan){(enum call)call, 2, 2, (enum about)about, .numbers = {a, b}});
-            if (a == 0)
-                list((struct plan){(enum call)call, 1, 2, (enum about)about, .numbers = {a, b}});
-            if (b == 0)
-                list((struct plan){(enum call)call, 2, 1, (enum about)about, .numbers = {a, b}});
-            if (a == 0 && b == 0)
-                list((struct plan){(enum call)call, 1, 1, (enum about)about, .numbers = {a, b}});
-        }
+        for (int about = NUMBERS; about <= NUMBERS_AND_ROOM; about++)
+            for (unsigned first = a == 0 ? 1 : 2; first <= SHELF_VERSIONS; first++)
+                for (unsigned second = b == 0 ? 1 : 2; second <= SHEET_VERSIONS; second++)
+                    list((struct plan){(enum call)call, first, second, (enum about)about, .numbers = {a, b}});
 }
 
 static void list_all(void)
@@ -369,11 +465,12 @@ static void list_all(void)
     for (size_t i = 0; i < COUNT(lengths); i++)
         list_calls((struct plan){.about = SHEET_LENGTH, .value = lengths[i]});
     for (unsigned size = 1; size <= 4; size++)
-        for (unsigned version = 1; version <= 2; version++)
-            for (unsigned more = 94; more <= 103; more++) {
-                list((struct plan){TAG, version, 2, LENT, more, size, {0}});
-                list((struct plan){REPLACE, version, version, LENT, more, size, {0}});
-            }
+        for (unsigned more = 94; more <= 103; more++) {
+            for (unsigned version = 1; version <= SHELF_VERSIONS; version++)
+                list((struct plan){TAG, version, SHEET_VERSIONS, LENT, more, size, {0}});
+            for (unsigned version = 1; version <= SHEET_VERSIONS; version++)
+                list((struct plan){REPLACE, SHELF_VERSIONS, version, LENT, more, size, {0}});
+        }
     for (size_t i = 0; i < COUNT(pairs); i++)
         list_numbers(pairs[i][0], pairs[i][1]);
 }
@@ -385,7 +482,9 @@ struct chosen {
     enum call call;
     uint64_t said;   /* size code or card number */
     unsigned number; /* the card replaced */
-    int honest;      /* a replacement that should equal tagging afresh */
+    const uint8_t *new_lent;
+    size_t new_len;  /* of the new card as it is handed over, which may be a part of the old one */
+    int honest;      /* a replacement that should equal tagging afresh, or a report against the unaltered sheet */
 };
 
 static void make_keys(void)
@@ -425,7 +524,7 @@ static struct chosen listed_case(const struct plan *p)
     cards.size = p->size ? p->size : 1 + below(4);
     cards.count = 1 + below(planes[cards.size].cards);
     cards.version = p->shelf_version;
-    cards.number = p->about >= NUMBERS ? p->numbers[1] : p->shelf_version == 2 && p->sheet_version == 2 ? some_number() : 0;
+    cards.number = p->about >= NUMBERS ? p->numbers[1] : p->shelf_version != 1 && p->sheet_version != 1 ? some_number() : 0;
     if (cards.number != 0)
         cards.version = 2;
     sheet_version = p->sheet_version;
@@ -436,7 +535,7 @@ static struct chosen listed_case(const struct plan *p)
         make_sheet();
     if (c.call == REPLACE) {
         choose_card(&c);
-        new_card.len = some_length(below(3));
+        new_card.len = one_in(3) ? 0 : some_length(below(3));
         fill(new_card.bytes, new_card.len);
     }
     out.len = c.call == VERIFY ? 0 : c.call == REPORT ? cards.count : second_sheet_len(sheet_version, cards.size);
@@ -461,7 +560,7 @@ static struct chosen listed_case(const struct plan *p)
         reseal();
         c.honest = 0;
         break;
-    case LENT: out.len = second_sheet_len(2, cards.size) + p->value - 100; break;
+    case LENT: out.len = second_sheet_len(SHEET_VERSIONS, cards.size) + p->value - 100; break;
     default: /* the sheet is that of the second number */
         cards.version = p->shelf_version;
         cards.number = p->numbers[0];
@@ -478,49 +577,84 @@ static struct chosen listed_case(const struct plan *p)
     return c;
 }
 
+/* Replace: often an old card that is not the one tagged, or another number. */
+static void choose_replacement(struct chosen *c)
+{
+    choose_card(c);
+    c->said = some_card_number(c->number);
+    c->honest = c->said == c->number;
+    some_card(&new_card);
+    if (one_in(3)) {
+        some_card(&old_card);
+        c->honest = 0;
+    }
+}
+
+/* Changes the two shelves round: the altered one is tagged. It may be too long for that. */
+static void turn_round(void)
+{
+    static struct draft altered;
+    size_t len = write_shelf(&cards, shelf.bytes);
+    if (len > 65536)
+        return;
+    altered = cards;
+    cards = tagged;
+    tagged = altered;
+    shelf.len = len;
+    make_sheet();
+}
+
+/* Verify and Report: the shelf is altered behind its sheet; now and then it is another shelf, by its number and perhaps its count. Returns
+ * whether the count is another. */
+static int alter_shelf(struct chosen *c)
+{
+    int recounted = 0;
+    c->honest = 1;
+    tagged = cards;
+    alter_cards(&cards, keys.bytes, sheet_version, how_many(&cards));
+    if (one_in(2))
+        turn_round();
+    choose_version(&cards);
+    if (one_in(8)) {
+        c->honest = 0;
+        renumber(&cards);
+        recounted = one_in(4);
+        if (sheet_version != 1 && one_in(4)) { /* the sheet says that number too, but its codes are of the first */
+            put_four(sheet.bytes + 5, cards.number);
+            reseal();
+        }
+    }
+    if (recounted)
+        change_count(&cards);
+    lay_out();
+    return recounted;
+}
+
 static struct chosen random_case(void)
 {
     struct chosen c = {.call = (enum call)below(4)};
     int recounted = 0;
     make_shelf(&cards);
     lay_out();
-    sheet_version = cards.number != 0 && !one_in(8) ? 2 : 1 + below(2); /* one of version 1 is for number 0 alone */
+    sheet_version = cards.number != 0 && !one_in(8) ? 2 + below(2) : 1 + below(SHEET_VERSIONS); /* one of version 1 is for number 0 alone */
     if (c.call == TAG)
         c.said = some_size_code();
     else
         make_sheet();
-    if (c.call == REPLACE) {
-        choose_card(&c);
-        c.said = some_card_number(c.number);
-        c.honest = c.said == c.number;
-        some_card(&new_card);
-        if (one_in(3)) {
-            some_card(&old_card);
-            c.honest = 0;
-        }
-    } else if (c.call != TAG) {
-        alter_cards(&cards, keys.bytes, how_many(&cards));
-        choose_version(&cards);
-        if (one_in(8)) {
-            renumber(&cards);
-            recounted = one_in(4);
-            if (sheet_version == 2 && one_in(4)) { /* the sheet says that number too, but its codes are of the first */
-                put_four(sheet.bytes + 5, cards.number);
-                reseal();
-            }
-        }
-        if (recounted)
-            change_count(&cards);
-        lay_out();
-    }
+    if (c.call == REPLACE)
+        choose_replacement(&c);
+    else if (c.call != TAG)
+        recounted = alter_shelf(&c);
     if (c.call != TAG && one_in(5)) {
         damage_sheet();
         c.honest = 0;
     }
-    if (c.call != REPLACE && !recounted && one_in(5))
+    if (c.call != REPLACE && !recounted && one_in(5)) {
         shelf.len = damage_shelf(&cards, shelf.bytes, shelf.len);
+        c.honest = 0;
+    }
     if (c.call != VERIFY)
-        lend_output(c.call == REPORT ? cards.count : second_sheet_len(c.call == TAG ? 2 : sheet_version, cards.size));
+        lend_output(c.call == REPORT ? cards.count : second_sheet_len(c.call == TAG ? SHEET_VERSIONS : sheet_version, cards.size));
     if (one_in(12)) {
         damage_keys();
         c.honest = 0;
@@ -528,64 +662,88 @@ static struct chosen random_case(void)
     return c;
 }
 
+/* Buffers that are only read may overlap: now and then the new card lies in the old one's memory. */
+static void lend_all(struct chosen *c)
+{
+    for (size_t i = 0; i < COUNT(all_parts); i++)
+        lend(all_parts[i]);
+    c->new_lent = new_card.lent;
+    c->new_len = new_card.len;
+    if (c->call == REPLACE && one_in(8)) {
+        c->new_len = old_card.len ? below((unsigned)old_card.len + 1) : 0;
+        c->new_lent = old_card.lent + (old_card.len - c->new_len);
+        c->honest = 0;
+    }
+}
+
+/* The second implementation reads the same guarded inputs, first; its output is what is expected. Returns what the library says. */
+static uint64_t call_both(const struct chosen *c, struct result *second)
+{
+    switch (c->call) {
+    case TAG:
+        *second = second_tag(keys.lent, keys.len, c->said, shelf.lent, shelf.len, out.bytes, out.len);
+        return gtm_tag(keys.lent, keys.len, c->said, shelf.lent, shelf.len, out.lent, out.len);
+    case VERIFY:
+        *second = second_verify(keys.lent, keys.len, shelf.lent, shelf.len, sheet.lent, sheet.len);
+        return gtm_verify(keys.lent, keys.len, shelf.lent, shelf.len, sheet.lent, sheet.len);
+    case REPORT:
+        *second = second_report(keys.lent, keys.len, shelf.lent, shelf.len, sheet.lent, sheet.len, out.bytes, out.len);
+        return gtm_report(keys.lent, keys.len, shelf.lent, shelf.len, sheet.lent, sheet.len, out.lent, out.len);
+    default:
+        *second = second_replace(keys.lent, keys.len, sheet.lent, sheet.len, c->said, old_card.lent, old_card.len, c->new_lent, c->new_len,
+                                 out.bytes, out.len);
+        return gtm_replace(keys.lent, keys.len, sheet.lent, sheet.len, c->said, old_card.lent, old_card.len, c->new_lent, c->new_len,
+                           out.lent, out.len);
+    }
+}
+
+/* Counts a shelf that was tagged by how many of its places are vacant. */
+static void count_share(void)
+{
+    const uint8_t *at = shelf.bytes + (shelf.bytes[4] == 1 ? 7 : 11);
+    unsigned count = second_count(shelf.bytes), vacant = 0;
+    for (unsigned j = 0; j < count; j++) {
+        vacant += at[0] == 0 && at[1] == 0;
+        at += 2 + at[0] * 256u + at[1];
+    }
+    shares[vacant == 0 ? 0 : vacant < count ? 1 : 2]++;
+}
+
+static void count_places(const struct chosen *c, struct result r)
+{
+    if (r.number == 5)
+        *(r.place == second_count(shelf.bytes) + 1 ? &left_over : &bad_cards) += 1;
+    if (r.number == 9)
+        *(r.place == 1 ? &long_old : &long_new) += 1;
+    if (r.number == 0 && c->call == TAG)
+        count_share();
+    if (r.number == 0 && c->call == REPLACE)
+        replaced[sheet.bytes[4]][(old_card.len == 0) + 2 * (c->new_len == 0)]++;
+}
+
 static void run_case(void)
 {
-    uint64_t library;
     struct result second;
-
     where_len = (size_t)snprintf(where, sizeof where, "seed %llu case %llu", (unsigned long long)seed, (unsigned long long)case_number);
     for (size_t i = 0; i < COUNT(all_parts); i++)
         all_parts[i]->len = 0;
     make_keys();
     struct chosen c = case_number <= plan_count ? listed_case(&plans[case_number - 1]) : random_case();
     where_len += (size_t)snprintf(where + where_len, sizeof where - where_len, " call %s", call_names[c.call]);
-
     if (c.call == REPLACE) /* it sees no shelf */
         shelf.len = 0;
-    for (size_t i = 0; i < COUNT(all_parts); i++)
-        lend(all_parts[i]);
-
-    /* Buffers that are only read may overlap: now and then the new card lies in the old one's memory. */
-    const uint8_t *new_lent = new_card.lent;
-    size_t new_len = new_card.len;
-    if (c.call == REPLACE && one_in(8)) {
-        new_len = old_card.len ? below((unsigned)old_card.len + 1) : 0;
-        new_lent = old_card.lent + (old_card.len - new_len);
-        c.honest = 0;
-    }
-
-    /* The second implementation reads the same guarded inputs, first; its output is what is expected. */
-    switch (c.call) {
-    case TAG:
-        second = second_tag(keys.lent, keys.len, c.said, shelf.lent, shelf.len, out.bytes, out.len);
-        library = gtm_tag(keys.lent, keys.len, c.said, shelf.lent, shelf.len, out.lent, out.len);
-        break;
-    case VERIFY:
-        second = second_verify(keys.lent, keys.len, shelf.lent, shelf.len, sheet.lent, sheet.len);
-        library = gtm_verify(keys.lent, keys.len, shelf.lent, shelf.len, sheet.lent, sheet.len);
-        break;
-    case REPORT:
-        second = second_report(keys.lent, keys.len, shelf.lent, shelf.len, sheet.lent, sheet.len, out.bytes, out.len);
-        library = gtm_report(keys.lent, keys.len, shelf.lent, shelf.len, sheet.lent, sheet.len, out.lent, out.len);
-        break;
-    default:
-        second = second_replace(keys.lent, keys.len, sheet.lent, sheet.len, c.said, old_card.lent, old_card.len, new_lent, new_len,
-                                out.bytes, out.len);
-        library = gtm_replace(keys.lent, keys.len, sheet.lent, sheet.len, c.said, old_card.lent, old_card.len, new_lent, new_len,
-                              out.lent, out.len);
-        break;
-    }
+    lend_all(&c);
+    uint64_t library = call_both(&c, &second);
     compare(c.call, library, second);
-    if (second.number == 5)
-        *(second.place == second_count(shelf.bytes) + 1 ? &left_over : &bad_cards) += 1;
-    if (second.number == 9)
-        *(second.place == 1 ? &long_old : &long_new) += 1;
-    if (c.honest && second.number == 0)
+    count_places(&c, second);
+    if (c.honest && second.number == 0 && c.call == REPLACE)
         check_replaced(c.number);
+    if (c.honest && second.number == 0 && c.call == REPORT)
+        check_detection(second);
 }
 
 /* Prints the counts of some pairs of versions, two digits each; returns how many are 0. */
-static int print_mixes(const char *name, unsigned long by[3][3], const char *pairs)
+static int print_mixes(const char *name, unsigned long by[3][4], const char *pairs)
 {
     int missing = 0;
     printf("  %s:", name);
@@ -595,6 +753,44 @@ static int print_mixes(const char *name, unsigned long by[3][3], const char *pai
         missing += n == 0;
     }
     printf("\n");
+    return missing;
+}
+
+/* Prints counts by their names; returns how many are 0. */
+static int print_counts(const char *name, unsigned version, size_t n, const unsigned long counts[], const char *const names[])
+{
+    int missing = 0;
+    printf("  %s %u:", name, version);
+    for (size_t i = 0; i < n; i++) {
+        printf("%s %s %lu", i == 0 ? "" : ",", names[i], counts[i]);
+        missing += counts[i] == 0;
+    }
+    printf("\n");
+    return missing;
+}
+
+/* Prints what became of vacant places, and of demand 3; returns how many kinds of it were not seen. */
+static int print_vacancies(void)
+{
+    static const char *const kinds[] = {"card by card", "added", "withdrawn", "vacant by vacant"};
+    static const char *const cards_named[] = {"added", "named", "withdrawn", "named"};
+    static const char *const rows[] = {"no row cancels", "one cancels"};
+    int missing = 0;
+    printf("vacant places, by the version of the sheet:\n");
+    for (unsigned version = 1; version <= SHEET_VERSIONS; version++)
+        missing += print_counts("replace", version, COUNT(kinds), replaced[version], kinds);
+    for (unsigned version = 1; version <= SHEET_VERSIONS; version++)
+        missing += print_counts("cards reported", version, COUNT(cards_named), turned[version], cards_named);
+    for (unsigned version = 1; version <= SHEET_VERSIONS; version++)
+        missing += print_counts("reports", version, COUNT(rows), premises[version], rows);
+    printf("code zero in version 3, so not seen: added %lu, withdrawn %lu\n", unseen[0], unseen[1]);
+    printf("tagged: no place vacant %lu, some %lu, all %lu\n", shares[0], shares[1], shares[2]);
+    printf("versions that there are not: shelf 0 %lu, 3 %lu; sheet 0 %lu, 4 %lu; done: 2 said as 3 %lu, 3 as 2 %lu\n", no_shelf[0], no_shelf[3],
+           no_sheet[0], no_sheet[4], said_other[3], said_other[2]);
+    const unsigned long others[] = {unseen[0], unseen[1], shares[0], shares[1], shares[2], no_shelf[0], no_shelf[3], no_sheet[0], no_sheet[4],
+                                    said_other[2], said_other[3]};
+    for (size_t i = 0; i < COUNT(others); i++)
+        missing += others[i] == 0;
     return missing;
 }
 
@@ -625,10 +821,10 @@ static int print_table(void)
     printf("5: at a card %lu, left over %lu; 9: old %lu, new %lu\n", bad_cards, left_over, long_old, long_new);
     printf("done, by the versions of shelf and sheet, 0 where there is none:\n");
     missing += print_mixes("tag", mixes[TAG], "1020");
-    missing += print_mixes("verify", mixes[VERIFY], "11122122");
-    missing += print_mixes("report", mixes[REPORT], "11122122");
-    missing += print_mixes("replace", mixes[REPLACE], "0102");
-    missing += print_mixes("refused 25", refused_mixes, "122122");
+    missing += print_mixes("verify", mixes[VERIFY], "111213212223");
+    missing += print_mixes("report", mixes[REPORT], "111213212223");
+    missing += print_mixes("replace", mixes[REPLACE], "010203");
+    missing += print_mixes("refused 25", refused_mixes, "1213212223");
     printf("25 for one byte %lu; numbers differ too: 20 %lu, 21 %lu\n", one_byte, sealed_first, counted_first);
     const unsigned long others[] = {answers[0], answers[1], answers[2], verdicts[0], verdicts[1], bad_cards, left_over, long_old, long_new,
                                     one_byte, sealed_first, counted_first};
@@ -663,6 +859,7 @@ int main(int argc, char **argv)
         return 0;
     }
     int missing = print_table();
+    missing += print_vacancies();
     if (missing) {
         printf("%d outcomes were never seen\n", missing);
         return 1;

@@ -81,8 +81,13 @@ uint32_t another_number(uint32_t number)
 
 unsigned label(unsigned which)
 {
-    static const unsigned fixed[FIXED_LABELS] = {0, 1, 2, 3, 0x0100, 0x0200, 0xffff, 0x0101, 0x0102, 0x0201, 0x8002};
+    static const unsigned fixed[FIXED_LABELS] = {0, 1, 2, 3, 4, 0x0100, 0x0200, 0x0300, 0xffff, 0x0101, 0x0102, 0x0103, 0x0201, 0x8002};
     return which < FIXED_LABELS ? fixed[which] : below(65536);
+}
+
+unsigned another_sheet_version(unsigned version)
+{
+    return 1 + (version + below(SHEET_VERSIONS - 1)) % SHEET_VERSIONS;
 }
 
 /* ---- A shelf of cards ---- */
@@ -118,13 +123,13 @@ size_t place_of(const struct draft *d, unsigned number)
 
 unsigned some_length(unsigned style)
 {
-    static const unsigned edges[] = {0, 1, 7, 8, 9, 15, 16, 23, 24, 25, 39, 40, 41, 1022, 1023, 1024};
+    static const unsigned edges[] = {1, 7, 8, 9, 15, 16, 23, 24, 25, 39, 40, 41, 1022, 1023, 1024};
     switch (style) {
-    case 0: return below(4);
-    case 1: return below(41);
+    case 0: return 1 + below(3);
+    case 1: return 1 + below(40);
     case 2: return edges[below(COUNT(edges) - (one_in(8) ? 0 : 3))];
-    case 3: return below(300);
-    case 4: return one_in(3) ? 0 : 1024;
+    case 3: return 1 + below(299);
+    case 4: return one_in(3) ? 1 : 1024;
     default: return 1024; /* 64 cards and more fill a shelf to the last byte */
     }
 }
@@ -160,9 +165,10 @@ void change_count(struct draft *d)
 
 void make_cards(struct draft *d, unsigned style)
 {
-    unsigned room = 65536 - (unsigned)head_len(d) - 2 * d->count;
+    static const uint8_t shares[] = {0, 0, 0, 1, 2, 8, 8, 16}; /* places of 16 that are vacant */
+    unsigned room = 65536 - (unsigned)head_len(d) - 2 * d->count, share = shares[below(COUNT(shares))];
     for (unsigned j = 1; j <= d->count; j++) {
-        unsigned len = some_length(style);
+        unsigned len = below(16) < share ? 0 : some_length(style);
         d->len[j] = len < room ? len : room;
         room -= d->len[j];
         fill(d->card[j], d->len[j]);
@@ -183,44 +189,78 @@ void make_shelf(struct draft *d)
 
 /* ---- Changed cards ---- */
 
-/* Gives card j 24 bytes whose code is the one wanted: the card key is known, so the last block can be had by deciphering. */
-static void forge(struct draft *d, const uint8_t keys[48], unsigned j, const uint8_t want[16])
+/* The cards of a shelf that are to be changed, against a sheet of that version made with those keys. */
+struct change {
+    struct draft *d;
+    const uint8_t *keys;
+    unsigned version, count;
+    unsigned order[MOST_CARDS]; /* the first `count` of them */
+};
+
+/* Adds the code that card j has now. */
+static void add_code(const struct change *c, unsigned j, uint8_t sum[16])
 {
-    uint8_t first[16] = {0}, subkey[16] = {0}, last[16], got[16];
-    fill(d->card[j], 8);
-    put_four(first, d->number);
-    put_four(first + 4, j);
-    memcpy(first + 8, d->card[j], 8);
-    second_encipher(keys, first, first);
-    second_encipher(keys, subkey, subkey);
-    second_double(subkey);
-    second_decipher(keys, want, last);
+    uint8_t code[16];
+    second_code(c->keys, c->version, c->d->number, j, c->d->card[j], c->d->len[j], code);
     for (int i = 0; i < 16; i++)
-        d->card[j][8 + i] = last[i] ^ first[i] ^ subkey[i];
-    d->len[j] = 24;
-    second_code(keys, d->number, j, d->card[j], 24, got);
-    if (memcmp(got, want, 16) != 0) {
+        sum[i] ^= code[i];
+}
+
+/* Gives card j 24 bytes whose code is the one wanted: the card key is known, so the last block can be had by deciphering. */
+static void forge(const struct change *c, unsigned j, const uint8_t want[16])
+{
+    uint8_t first[16] = {0}, subkey[16] = {0}, last[16], sum[16], *card = c->d->card[j];
+    fill(card, 8);
+    put_four(first, c->d->number);
+    put_four(first + 4, j);
+    memcpy(first + 8, card, 8);
+    second_encipher(c->keys, first, first);
+    second_encipher(c->keys, subkey, subkey);
+    second_double(subkey);
+    second_decipher(c->keys, want, last);
+    for (int i = 0; i < 16; i++)
+        card[8 + i] = last[i] ^ first[i] ^ subkey[i];
+    c->d->len[j] = 24;
+    memcpy(sum, want, 16);
+    add_code(c, j, sum);
+    if (memcmp(sum, (const uint8_t[16]){0}, 16) != 0) {
         printf("a forged card has another code than was wanted\n");
         exit(1);
     }
 }
 
 /* Adds a difference to the code of card j. */
-static void move_code(struct draft *d, const uint8_t keys[48], unsigned j, const uint8_t difference[16])
+static void move_code(const struct change *c, unsigned j, const uint8_t difference[16])
 {
     uint8_t want[16];
-    second_code(keys, d->number, j, d->card[j], d->len[j], want);
-    for (int i = 0; i < 16; i++)
-        want[i] ^= difference[i];
-    forge(d, keys, j, want);
+    memcpy(want, difference, 16);
+    add_code(c, j, want);
+    forge(c, j, want);
+}
+
+void fill_place(struct draft *d, unsigned number)
+{
+    d->len[number] = 1 + below(8);
+    fill(d->card[number], d->len[number]);
+}
+
+/* Withdraws the card, or adds one where the place is vacant. */
+static void turn_over(struct draft *d, unsigned j)
+{
+    if (d->len[j])
+        d->len[j] = 0;
+    else
+        fill_place(d, j);
 }
 
 static void change_card(struct draft *d, unsigned j)
 {
-    if (d->len[j] && !one_in(4))
+    if (d->len[j] == 0 || one_in(5)) {
+        turn_over(d, j);
+    } else if (!one_in(4)) {
         flip(d->card[j], d->len[j]);
-    else {
-        d->len[j] = d->len[j] ? below(d->len[j]) : 1 + below(8);
+    } else {
+        d->len[j] = below(d->len[j]);
         fill(d->card[j], d->len[j]);
     }
 }
@@ -236,6 +276,62 @@ static void swap_cards(struct draft *d, unsigned a, unsigned b)
     d->len[b] = len;
 }
 
+static void change_each(const struct change *c)
+{
+    for (unsigned i = 0; i < c->count; i++)
+        change_card(c->d, c->order[i]);
+}
+
+static void turn_each(const struct change *c)
+{
+    for (unsigned i = 0; i < c->count; i++)
+        turn_over(c->d, c->order[i]);
+}
+
+/* They change places by twos; one that is left over is changed plainly. */
+static void swap_twos(const struct change *c)
+{
+    unsigned i = 0;
+    for (; i + 1 < c->count; i += 2)
+        swap_cards(c->d, c->order[i], c->order[i + 1]);
+    if (i < c->count)
+        change_card(c->d, c->order[i]);
+}
+
+/* One difference for all codes, or for some of them. */
+static void move_each(const struct change *c)
+{
+    uint8_t common[16];
+    int all = one_in(2);
+    fill(common, 16);
+    for (unsigned i = 0; i < c->count; i++)
+        if (all || one_in(2))
+            move_code(c, c->order[i], common);
+        else
+            change_card(c->d, c->order[i]);
+}
+
+/* Each becomes another card with the same code, which no row shows: at a vacant place, in version 3, a card whose code is zero. */
+static void keep_codes(const struct change *c)
+{
+    static const uint8_t none[16] = {0};
+    for (unsigned i = 0; i < c->count; i++)
+        move_code(c, c->order[i], none);
+}
+
+/* Each but the last is changed, and the last is forged so that all of them cancel. */
+static void cancel(const struct change *c)
+{
+    uint8_t sum[16] = {0};
+    for (unsigned i = 0; i + 1 < c->count; i++) {
+        add_code(c, c->order[i], sum);
+        change_card(c->d, c->order[i]);
+        add_code(c, c->order[i], sum);
+    }
+    if (c->count)
+        move_code(c, c->order[c->count - 1], sum);
+}
+
 unsigned how_many(const struct draft *d)
 {
     unsigned limit = planes[d->size].limit;
@@ -243,45 +339,35 @@ unsigned how_many(const struct draft *d)
     return usual[below(COUNT(usual))];
 }
 
-void alter_cards(struct draft *d, const uint8_t keys[48], unsigned changed)
+void shuffle(const struct draft *d, unsigned order[MOST_CARDS])
 {
-    unsigned order[MOST_CARDS];
-    if (changed > d->count)
-        changed = d->count;
     for (unsigned i = 0; i < d->count; i++) {
         unsigned k = below(i + 1);
         order[i] = order[k];
         order[k] = i + 1;
     }
-    if (one_in(4)) { /* the cards of one row first */
-        unsigned row = 1 + below(planes[d->size].cards), front = 0;
-        for (unsigned i = 0; i < d->count; i++)
-            if (second_on_row(d->size, row, order[i])) {
-                unsigned j = order[i];
-                order[i] = order[front];
-                order[front++] = j;
-            }
-    }
-    unsigned way = below(8);
-    uint8_t common[16], sum[16] = {0};
-    fill(common, 16);
-    for (unsigned i = 0; i < changed; i++) {
-        unsigned j = order[i];
-        if (way == 0 || (way == 1 && one_in(2))) { /* one difference for all, or for some of them */
-            move_code(d, keys, j, common);
-        } else if (way == 2) { /* differences that cancel over all of them */
-            int last = i > 0 && i + 1 == changed;
-            fill(common, 16);
-            move_code(d, keys, j, last ? sum : common);
-            for (int k = 0; k < 16; k++)
-                sum[k] ^= common[k];
-        } else if (way == 3 && i + 1 < changed) {
-            swap_cards(d, j, order[i + 1]);
-            i++;
-        } else {
-            change_card(d, j);
+}
+
+/* Moves the cards of one row to the front. */
+static void row_first(const struct draft *d, unsigned order[MOST_CARDS])
+{
+    unsigned row = 1 + below(planes[d->size].cards), front = 0;
+    for (unsigned i = 0; i < d->count; i++)
+        if (second_on_row(d->size, row, order[i])) {
+            unsigned j = order[i];
+            order[i] = order[front];
+            order[front++] = j;
         }
-    }
+}
+
+void alter_cards(struct draft *d, const uint8_t keys[48], unsigned sheet_version, unsigned changed)
+{
+    static void (*const ways[])(const struct change *) = {change_each, change_each, change_each, turn_each, swap_twos, move_each, keep_codes, cancel};
+    struct change c = {d, keys, sheet_version, changed < d->count ? changed : d->count, {0}};
+    shuffle(d, c.order);
+    if (one_in(4))
+        row_first(d, c.order);
+    ways[below(COUNT(ways))](&c);
 }
 
 /* ---- Damage ---- */

@@ -24,8 +24,11 @@ uint32_t some_number(void);
 uint32_t another_number(uint32_t number);
 
 /* What may stand as the version: below FIXED_LABELS one of a list, the versions that there are among them; above it any. */
-#define FIXED_LABELS 11u
+#define FIXED_LABELS 14u
 unsigned label(unsigned which);
+
+/* Another of the versions that a sheet has. */
+unsigned another_sheet_version(unsigned version);
 
 /* ---- A shelf of cards ---- */
 
@@ -46,7 +49,7 @@ size_t head_len(const struct draft *d);
 /* Where the length of a card stands in the file. */
 size_t place_of(const struct draft *d, unsigned number);
 
-/* The length of a card; styles 0 to 2 are short, 5 is the longest. */
+/* The length of a filled card; styles 0 to 2 are short, 5 is the longest. */
 unsigned some_length(unsigned style);
 
 /* Chooses version and number. */
@@ -61,15 +64,22 @@ void renumber(struct draft *d);
 /* Takes the last card away or adds a short one. */
 void change_count(struct draft *d);
 
-/* Gives each card of a good shelf its length and bytes; version, number, size and count have been set. */
+/* Gives each card of a good shelf its length and bytes; version, number, size and count have been set. None, a few, half or all of the places are
+ * vacant. */
 void make_cards(struct draft *d, unsigned style);
+
+/* Puts a short card into a place, vacant or not. */
+void fill_place(struct draft *d, unsigned number);
 
 /* A good shelf of any version, number, size and count. */
 void make_shelf(struct draft *d);
 
-/* Changes so many of the cards: plainly, by changing places, or so that rows cancel. */
-void alter_cards(struct draft *d, const uint8_t keys[48], unsigned changed);
+/* Changes so many of the cards: plainly, by withdrawing and adding them, by changing places, or so that rows of a sheet of that version cancel. */
+void alter_cards(struct draft *d, const uint8_t keys[48], unsigned sheet_version, unsigned changed);
 unsigned how_many(const struct draft *d);
+
+/* Every card of the shelf once, in any order. */
+void shuffle(const struct draft *d, unsigned order[MOST_CARDS]);
 
 /* Damages the file of a shelf in one of many ways; returns its new length. The cards may change with it. */
 size_t damage_shelf(struct draft *d, uint8_t *file, size_t len);

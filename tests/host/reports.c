@@ -2,8 +2,8 @@
  *
  *     reports program [count [seed [case]]]
  *
- * First come the listed inputs: the edges of the format, every size and count, versions and numbers, every refusal;
- * then `count` random ones. A case depends on the seed and its own number alone, so that a fourth argument runs a single
+ * First come the listed inputs: the edges of the format, every size and count, cards withdrawn and added, versions and
+ * numbers, every refusal; then `count` random ones. A case depends on the seed and its own number alone, so that a fourth argument runs a single
  * case again. Input is handed over as a file or through a pipe, in pieces of several lengths. Any difference, a status
  * other than 0, a signal, or no end within some seconds fails; the input is then kept in a file. */
 #define _GNU_SOURCE
@@ -114,11 +114,11 @@ struct plan {
     unsigned way;                  /* how the input is handed over; 4 for any */
 };
 
-/* Two good shelves, so many cards of the second changed. */
+/* Two good shelves, so many cards of the second changed. The sheet between them is of the newest version. */
 static void good(const struct plan *p)
 {
     start(p->size, p->count);
-    alter_cards(&cards[1], input, p->changed);
+    alter_cards(&cards[1], input, SHEET_VERSIONS, p->changed);
     lay_out();
     join();
 }
@@ -127,7 +127,27 @@ static void good(const struct plan *p)
 static void good_any(const struct plan *p)
 {
     start(p->size, p->count);
-    alter_cards(&cards[1], input, how_many(&cards[1]));
+    alter_cards(&cards[1], input, SHEET_VERSIONS, how_many(&cards[1]));
+    lay_out();
+    join();
+}
+
+/* Two good shelves, so many places of one of them vacant: cards that were added if it is the first, and withdrawn if it is the second. The
+ * other places are filled in both, or for `how` 1 vacant in both. */
+static void vacated(const struct plan *p)
+{
+    unsigned order[MOST_CARDS] = {0};
+    start(p->size, p->count);
+    shuffle(&cards[0], order);
+    for (unsigned i = 0; i < p->count; i++) {
+        fill_place(&cards[0], order[i]);
+        if (i >= p->changed && p->how == 1)
+            cards[0].len[order[i]] = 0;
+    }
+    cards[1] = cards[0];
+    choose_version(&cards[1]);
+    for (unsigned i = 0; i < p->changed; i++)
+        cards[p->which].len[order[i]] = 0;
     lay_out();
     join();
 }
@@ -259,7 +279,7 @@ static void numbered(const struct plan *p)
 {
     unsigned size = 1 + below(4);
     start_numbered(p->version[0], p->number[0], size, 1 + below(planes[size].cards));
-    alter_cards(&cards[1], input, p->changed);
+    alter_cards(&cards[1], input, SHEET_VERSIONS, p->changed);
     cards[1].version = p->version[1];
     cards[1].number = p->number[1];
     if (p->how == 1)
@@ -353,7 +373,7 @@ static void anything(const struct plan *p)
     make_keys();
     make_shelf(&cards[0]);
     cards[1] = cards[0];
-    alter_cards(&cards[1], input, how_many(&cards[1]));
+    alter_cards(&cards[1], input, SHEET_VERSIONS, how_many(&cards[1]));
     choose_version(&cards[1]);
     if (one_in(8))
         renumber(&cards[1]);
@@ -415,6 +435,16 @@ static void list_good(unsigned size)
         list((struct plan){"two good shelves, every count", good_any, size, count, .way = 4});
 }
 
+static void list_vacated(unsigned size)
+{
+    unsigned m = planes[size].cards, d = planes[size].limit;
+    const unsigned changed[] = {0, 1, d, d + 1, m};
+    for (size_t i = 0; i < COUNT(changed); i++)
+        for (unsigned which = 0; which < 2; which++)
+            for (unsigned how = 0; how < 2; how++)
+                list((struct plan){"vacant places", vacated, size, m, changed[i], .which = which, .how = how, .way = 4});
+}
+
 static void list_refusals(unsigned which)
 {
     for (unsigned size = 1; size <= 4; size++) {
@@ -465,8 +495,10 @@ static void list_all(void)
     static const unsigned codes[] = {0, 5, 6, 9, 17, 127, 128, 129, 132, 254, 255};
     for (unsigned way = 0; way < 4; way++)
         list_lengths(way);
-    for (unsigned size = 1; size <= 4; size++)
+    for (unsigned size = 1; size <= 4; size++) {
         list_good(size);
+        list_vacated(size);
+    }
     for (size_t i = 0; i < COUNT(codes); i++)
         list((struct plan){"wrong size code", wrong_size, .size = codes[i], .way = 4});
     list_versions();
@@ -655,6 +687,38 @@ static unsigned kind(void)
     return number >= 2 && number <= 5 ? TAG_2 + number - 2 : KINDS;
 }
 
+/* Cards that were added, and withdrawn, from the first shelf to the second; and how many of them are named. */
+static unsigned long turned[2], turned_named[2];
+
+static int is_named(unsigned j)
+{
+    char line[24];
+    snprintf(line, sizeof line, "\ncard %u\n", j);
+    return strstr(expected, line) != NULL;
+}
+
+static size_t length_at(const uint8_t *at)
+{
+    return at[0] * 256u + at[1];
+}
+
+static void count_turned(void)
+{
+    const uint8_t *first = input + FRONT, *second = first + length_at(input + 49);
+    unsigned count = second_count(first);
+    first += first[4] == 1 ? 7 : 11;
+    second += second[4] == 1 ? 7 : 11;
+    for (unsigned j = 1; j <= count; j++) {
+        int withdrawn = length_at(second) == 0;
+        if (withdrawn != (length_at(first) == 0)) {
+            turned[withdrawn]++;
+            turned_named[withdrawn] += (unsigned)is_named(j);
+        }
+        first += 2 + length_at(first);
+        second += 2 + length_at(second);
+    }
+}
+
 static void run_case(void)
 {
     static const struct plan random_plan = {"anything", anything, .way = 4};
@@ -675,6 +739,8 @@ static void run_case(void)
     if (k == KINDS)
         differs(plan, way, "no kind of output that the program can print");
     seen[k]++;
+    if (k >= INTACT)
+        count_turned();
 }
 
 /* Prints how often each kind of output was seen; returns how many were not. */
@@ -685,7 +751,8 @@ static int print_table(void)
         printf("%s %lu%s", kinds[k], seen[k], k == PAST || k == TAG_LEFT || k == REPORT_25 || k + 1 == KINDS ? "\n" : "; ");
         missing += seen[k] == 0;
     }
-    return missing;
+    printf("cards added %lu, named %lu; withdrawn %lu, named %lu\n", turned[0], turned_named[0], turned[1], turned_named[1]);
+    return missing + (turned_named[0] == 0) + (turned_named[1] == 0);
 }
 
 int main(int argc, char **argv)

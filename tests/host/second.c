@@ -185,10 +185,15 @@ void second_cmac(const uint8_t key[16], const uint8_t *bytes, size_t len, uint8_
     cmac(w, NULL, 0, bytes, len, out);
 }
 
-/* Shelf number and card number, 4 bytes each, then the card. */
-static void code(const uint8_t w[176], uint32_t shelf_number, unsigned card_number, const uint8_t *card, size_t len, uint8_t out[16])
+/* Shelf number and card number, 4 bytes each, then the card. In a sheet of version 3 a card of length 0 has zero bytes in place of a code. */
+static void code(const uint8_t w[176], unsigned version, uint32_t shelf_number, unsigned card_number, const uint8_t *card, size_t len,
+                 uint8_t out[16])
 {
     uint8_t front[8];
+    if (version == 3 && len == 0) {
+        memset(out, 0, 16);
+        return;
+    }
     for (int i = 0; i < 4; i++) {
         front[3 - i] = (uint8_t)(shelf_number >> 8 * i);
         front[7 - i] = (uint8_t)(card_number >> 8 * i);
@@ -196,11 +201,12 @@ static void code(const uint8_t w[176], uint32_t shelf_number, unsigned card_numb
     cmac(w, front, 8, card, len, out);
 }
 
-void second_code(const uint8_t keys[48], uint32_t shelf_number, unsigned card_number, const uint8_t *card, size_t len, uint8_t out[16])
+void second_code(const uint8_t keys[48], unsigned version, uint32_t shelf_number, unsigned card_number, const uint8_t *card, size_t len,
+                 uint8_t out[16])
 {
     uint8_t w[176];
     expand(keys, w);
-    code(w, shelf_number, card_number, card, len, out);
+    code(w, version, shelf_number, card_number, card, len, out);
 }
 
 /* ---- Planes ---- */
@@ -347,12 +353,12 @@ uint32_t second_number(const uint8_t *file)
 
 /* Letters and version are read first, for how long the head is depends on them. Returns 1 if these are no letters or no version that there
  * is, or if the file ends within the head. */
-static int bad_front(const char *letters, size_t shortest, const uint8_t *file, size_t len, struct head *h)
+static int bad_front(const char *letters, unsigned versions, size_t shortest, const uint8_t *file, size_t len, struct head *h)
 {
     if (len < 5 || memcmp(file, letters, 3) != 0)
         return 1;
     h->version = two(file + 3);
-    if (h->version != 1 && h->version != 2)
+    if (h->version < 1 || h->version > versions)
         return 1;
     h->len = h->version == 1 ? shortest : shortest + 4;
     if (len < h->len)
@@ -364,7 +370,7 @@ static int bad_front(const char *letters, size_t shortest, const uint8_t *file, 
 
 static int bad_head(const uint8_t *shelf, size_t len, struct head *h)
 {
-    return len > 65536 || bad_front("TBS", 7, shelf, len, h);
+    return len > 65536 || bad_front("TBS", SHELF_VERSIONS, 7, shelf, len, h);
 }
 
 /* Place of the first bad card, count + 1 for bytes left over, 0 if all is well. The head has been read. */
@@ -383,19 +389,19 @@ static unsigned bad_card(const uint8_t *shelf, size_t len, const struct head *h)
     return at < len ? h->count + 1 : 0;
 }
 
-/* Sums of all rows of a shelf that has been read, its codes under that shelf number. */
-static void shelf_sums(const struct keys *k, unsigned size, const uint8_t *shelf, const struct head *h, uint32_t number, uint8_t sums[][16])
+/* Sums of all rows of a shelf that has been read, its codes by the version and the number of the sheet. */
+static void shelf_sums(const struct keys *k, const uint8_t *shelf, const struct head *h, const struct head *sheet, uint8_t sums[][16])
 {
-    const struct plane *p = &planes[size];
+    const struct plane *p = &planes[sheet->size];
     const uint8_t *at = shelf + h->len;
     memset(sums, 0, (p->cards + 1) * 16);
     for (unsigned j = 1; j <= h->count; j++) {
         uint8_t c[16];
         unsigned len = two(at);
-        code(k->card, number, j, at + 2, len, c);
+        code(k->card, sheet->version, sheet->number, j, at + 2, len, c);
         at += 2 + len;
         for (unsigned i = 1; i <= p->cards; i++)
-            if (on[size][i][j])
+            if (on[sheet->size][i][j])
                 xor16(sums[i], c);
     }
 }
@@ -407,7 +413,7 @@ size_t second_sheet_len(unsigned version, unsigned size)
 
 static int bad_sheet(const uint8_t *sheet, size_t len, struct head *h)
 {
-    if (bad_front("TBT", 8, sheet, len, h))
+    if (bad_front("TBT", SHEET_VERSIONS, 8, sheet, len, h))
         return 1;
     h->size = sheet[h->len - 3];
     if (h->size < 1 || h->size > 4)
@@ -450,14 +456,14 @@ struct result second_tag_in(unsigned version, const uint8_t *keys, size_t keys_l
     if (out_len < len)
         return refuse(7, 0);
     struct keys k = expand_all(keys);
-    uint32_t number = version == 1 ? 0 : h.number;
-    shelf_sums(&k, (unsigned)size, shelf, &h, number, sums);
+    struct head s = {.version = version, .size = (unsigned)size, .number = version == 1 ? 0 : h.number};
+    shelf_sums(&k, shelf, &h, &s, sums);
     uint8_t *at = out;
     memcpy(at, "TBT\0", 4);
     at[4] = (uint8_t)version;
     at += 5;
-    for (int i = 3; i >= 0 && version == 2; i--)
-        *at++ = (uint8_t)(number >> 8 * i);
+    for (int i = 3; i >= 0 && version != 1; i--)
+        *at++ = (uint8_t)(s.number >> 8 * i);
     at[0] = (uint8_t)size;
     at[1] = (uint8_t)(h.count >> 8);
     at[2] = (uint8_t)h.count;
@@ -471,7 +477,7 @@ struct result second_tag_in(unsigned version, const uint8_t *keys, size_t keys_l
 struct result second_tag(const uint8_t *keys, size_t keys_len, uint64_t size, const uint8_t *shelf, size_t shelf_len, uint8_t *out,
                          size_t out_len)
 {
-    return second_tag_in(2, keys, keys_len, size, shelf, shelf_len, out, out_len);
+    return second_tag_in(3, keys, keys_len, size, shelf, shelf_len, out, out_len);
 }
 
 /* The checks that verify and report share; gives the two heads. */
@@ -506,7 +512,7 @@ struct result second_verify(const uint8_t *keys, size_t keys_len, const uint8_t 
     if (r.number)
         return r;
     struct keys k = expand_all(keys);
-    shelf_sums(&k, s.size, shelf, &h, h.number, sums);
+    shelf_sums(&k, shelf, &h, &s, sums);
     r.yes = 1;
     for (unsigned i = 1; i <= planes[s.size].tags; i++) {
         tag_of_sum(&k, i, sums[i], tag);
@@ -529,7 +535,7 @@ struct result second_report(const uint8_t *keys, size_t keys_len, const uint8_t 
     if (marks_len < count)
         return refuse(7, 0);
     struct keys k = expand_all(keys);
-    shelf_sums(&k, size, shelf, &h, h.number, sums);
+    shelf_sums(&k, shelf, &h, &s, sums);
     for (unsigned i = 1; i <= p->tags; i++)
         sum_of_tag(&k, i, sheet + s.len + 16 * (i - 1), tagged[i]);
     memset(marks, 1, count);
@@ -585,8 +591,8 @@ struct result second_replace(const uint8_t *keys, size_t keys_len, const uint8_t
         return refuse(7, 0);
     uint8_t change[16], new_code[16];
     unsigned size = s.size, j = (unsigned)number;
-    code(k.card, s.number, j, old_card, old_len, change);
-    code(k.card, s.number, j, new_card, new_len, new_code);
+    code(k.card, s.version, s.number, j, old_card, old_len, change);
+    code(k.card, s.version, s.number, j, new_card, new_len, new_code);
     xor16(change, new_code);
     memcpy(out, sheet, sheet_len); /* version and number among the rest */
     for (unsigned i = 1; i <= planes[size].tags; i++) {
@@ -617,7 +623,7 @@ size_t second_print(const uint8_t *input, size_t len, char out[MOST_PRINTED])
     unsigned size = input[48];
     struct result r = second_tag(input, 48, size, first, first_len, sheet, sizeof sheet);
     if (r.number == 0)
-        r = second_report(input, 48, second, second_len, sheet, second_sheet_len(2, size), marks, sizeof marks);
+        r = second_report(input, 48, second, second_len, sheet, second_sheet_len(3, size), marks, sizeof marks);
     if (r.number != 0)
         return (size_t)sprintf(out, "refused %u place %u\n", r.number, r.place);
     unsigned count = second_count(first);
@@ -675,65 +681,177 @@ static void check_cmac(size_t len, const char *mac, const char *what)
     expect(memcmp(got, want, 16) == 0, what);
 }
 
-/* Cards 01 to 07, of which as many as `changed` says, from `first` on, are 09; returns the shelf's length. */
+/* Lays out a shelf, a card a letter: a digit is a card of that one byte, a dash a vacant place. Returns its length. */
 #define BENCH 32
-static size_t bench_shelf(unsigned version, uint8_t number, unsigned first, unsigned changed, uint8_t shelf[BENCH])
+static size_t bench_shelf(unsigned version, uint8_t number, const char *cards, uint8_t shelf[BENCH])
 {
     uint8_t *at = shelf + (version == 1 ? 7 : 11);
-    memcpy(shelf, version == 1 ? "TBS\0\1\0\7" : "TBS\0\2\0\0\0\0\0\7", (size_t)(at - shelf));
+    memcpy(shelf, version == 1 ? "TBS\0\1\0" : "TBS\0\2\0\0\0\0\0", (size_t)(at - shelf - 1));
+    at[-1] = (uint8_t)strlen(cards);
     if (version == 2)
         shelf[8] = number;
-    for (unsigned j = 1; j <= 7; j++, at += 3) {
-        memcpy(at, "\0\1", 2);
-        at[2] = (uint8_t)(j >= first && j < first + changed ? 9 : j);
+    for (; *cards != 0; cards++) {
+        *at++ = 0;
+        *at++ = *cards != '-';
+        if (*cards != '-')
+            *at++ = (uint8_t)(*cards - '0');
     }
     return (size_t)(at - shelf);
 }
 
-/* Zero keys, size 1, no card changed in the first shelf and some in the second. Both shelves and the sheet are of that version, with that
- * number in version 2. */
-static struct result bench(unsigned version, uint8_t number, unsigned first, unsigned changed, uint8_t marks[7])
+/* That shelf in the version that goes with a sheet's: 1 with 1, else 2. */
+static size_t bench_shelf_for(unsigned sheet_version, uint8_t number, const char *cards, uint8_t shelf[BENCH])
 {
-    uint8_t keys[48] = {0}, shelf[BENCH], sheet[92];
-    size_t len = bench_shelf(version, number, 0, 0, shelf), sheet_len = second_sheet_len(version, 1);
-    second_tag_in(version, keys, 48, 1, shelf, len, sheet, sheet_len);
-    bench_shelf(version, number, first, changed, shelf);
-    return second_report(keys, 48, shelf, len, sheet, sheet_len, marks, 7);
+    return bench_shelf(sheet_version == 1 ? 1 : 2, number, cards, shelf);
 }
 
-static void check_bench(unsigned version, uint8_t number)
+/* Its sheet in that version, zero keys and size 1; returns its length. */
+static const uint8_t zero_keys[48] = {0};
+static size_t bench_sheet(unsigned version, uint8_t number, const char *cards, uint8_t sheet[92])
 {
-    uint8_t marks[7];
-    struct result r = bench(version, number, 2, 1, marks);
-    expect(r.answer == 1 && r.named == 1 && r.rows == 3 && memcmp(marks, "\0\1\0\0\0\0\0", 7) == 0, "card 2 changed");
-    r = bench(version, number, 1, 2, marks);
-    expect(r.answer == 1 && r.named == 2 && r.rows == 5 && memcmp(marks, "\1\1\0\0\0\0\0", 7) == 0, "cards 1 2 changed");
-    r = bench(version, number, 1, 3, marks);
-    expect(r.answer == 2 && r.named == 4 && r.rows == 6 && memcmp(marks, "\1\1\1\0\0\1\0", 7) == 0, "cards 1 2 3 changed");
+    uint8_t shelf[BENCH];
+    size_t len = bench_shelf_for(version, number, cards, shelf);
+    expect(second_tag_in(version, zero_keys, 48, 1, shelf, len, sheet, 92).number == 0, "a sheet of the bench");
+    return second_sheet_len(version, 1);
+}
+
+/* One shelf tagged in some version and another reported: the answer, the number of rows that disagree, and the cards named, a digit each. */
+struct bench {
+    const char *old, *new;
+    int answer;
+    unsigned rows;
+    const char *named, *what;
+};
+
+static void check_report(unsigned version, uint8_t number, const struct bench *b)
+{
+    uint8_t shelf[BENCH], sheet[92], marks[7], want[7] = {0};
+    size_t sheet_len = bench_sheet(version, number, b->old, sheet), len = bench_shelf_for(version, number, b->new, shelf);
+    struct result r = second_report(zero_keys, 48, shelf, len, sheet, sheet_len, marks, 7);
+    for (const char *at = b->named; *at != 0; at++)
+        want[*at - '1'] = 1;
+    expect(r.number == 0 && r.answer == b->answer && r.rows == b->rows && r.named == strlen(b->named) && memcmp(marks, want, 7) == 0, b->what);
+}
+
+/* Which cards a report names depends on which changed, and not on how: filled against vacant is a change like any other. */
+static void check_reports(unsigned version, uint8_t number)
+{
+    static const struct bench all[] = {
+        {"1234567", "1234567", 0, 0, "", "no card changed"},
+        {"1234567", "1934567", 1, 3, "2", "card 2 changed"},
+        {"1234567", "9934567", 1, 5, "12", "cards 1 2 changed"},
+        {"1234567", "9994567", 2, 6, "1236", "cards 1 2 3 changed"},
+        {"1-34567", "1-34567", 0, 0, "", "place 2 vacant as it was"},
+        {"1234567", "1-34567", 1, 3, "2", "card 2 withdrawn"},
+        {"1-34567", "1234567", 1, 3, "2", "card 2 added"},
+        {"1-34567", "-134567", 1, 5, "12", "card 1 moved to place 2"},
+        {"1234567", "---4567", 2, 6, "1236", "cards 1 2 3 withdrawn"},
+        {"---4567", "1234567", 2, 6, "1236", "cards 1 2 3 added"},
+        {"-------", "-------", 0, 0, "", "no card at all"},
+        {"-------", "-2-----", 1, 3, "2", "card 2 added to none"},
+    };
+    for (size_t i = 0; i < sizeof all / sizeof all[0]; i++)
+        check_report(version, number, &all[i]);
+}
+
+/* A card of length 0 is coded as any other in versions 1 and 2. A card of one byte has the same code in all versions. */
+static void check_codes(void)
+{
+    const uint8_t coded[9] = {0, 0, 0, 5, 0, 0, 0, 2, 9}, zero[16] = {0};
+    uint8_t empty[16], one[16], got[16];
+    second_cmac(zero_keys, coded, 8, empty);
+    second_cmac(zero_keys, coded, 9, one);
+    for (unsigned version = 1; version <= SHEET_VERSIONS; version++) {
+        second_code(zero_keys, version, 5, 2, NULL, 0, got);
+        expect(memcmp(got, version == 3 ? zero : empty, 16) == 0, "the code of a card of length 0");
+        second_code(zero_keys, version, 5, 2, coded + 8, 1, got);
+        expect(memcmp(got, one, 16) == 0, "the code of a card of one byte");
+    }
+}
+
+/* Whether the sheets of two shelves have the same tags from one to the other. Their versions have numbers. */
+static int same_tags(unsigned first, unsigned last, unsigned a_version, const char *a_cards, unsigned b_version, const char *b_cards)
+{
+    uint8_t a[92], b[92];
+    size_t at = 12 + 16 * (first - 1);
+    bench_sheet(a_version, 5, a_cards, a);
+    bench_sheet(b_version, 5, b_cards, b);
+    return memcmp(a + at, b + at, 16 * (last - first + 1)) == 0;
+}
+
+/* Of the rows with tags card 2 is on row 1 alone. */
+static void check_vacancies(void)
+{
+    expect(same_tags(1, 4, 3, "1234567", 2, "1234567"), "version 3 without a vacancy has the tags of version 2");
+    expect(same_tags(1, 4, 3, "12345--", 3, "12345"), "vacant places at the end change no tag");
+    expect(!same_tags(1, 4, 2, "12345--", 2, "12345"), "cards of length 0 at the end do in version 2");
+    expect(!same_tags(1, 1, 3, "1-34567", 2, "1-34567"), "a vacancy changes the tag of its row");
+    expect(same_tags(2, 4, 3, "1-34567", 2, "1-34567"), "a vacancy changes no other tag");
+    expect(same_tags(2, 4, 3, "1-34567", 3, "1234567"), "a card withdrawn changes no other tag");
+}
+
+/* The sheet of a shelf of number 5 with a vacancy, worked out with OpenSSL's cipher and CMAC; and the tags of zero sums where all is vacant. */
+static void check_stored(void)
+{
+    uint8_t stored[92], sheet[92], mask[16] = {0}, tag[16];
+    from_hex("544254000300000005010007"
+             "3b018fcebd15fc99e776e925351d8153581b144b656da1a9d629d3a5e484440c"
+             "ac3a3e122893405ef34d90b358a4bb253be6e8a1ec1824a1df083cc51a2e24d4"
+             "d00d15528c16433661ec1d3dfcafe8fb", stored);
+    bench_sheet(3, 5, "1-34567", sheet);
+    expect(memcmp(sheet, stored, 92) == 0, "the stored sheet with a vacancy");
+    bench_sheet(3, 5, "-------", sheet);
+    second_encipher(zero_keys, mask, mask);
+    for (unsigned i = 0; i < 4; i++) {
+        second_double(mask);
+        second_encipher(zero_keys, mask, tag);
+        xor16(tag, mask);
+        expect(memcmp(sheet + 12 + 16 * i, tag, 16) == 0, "a tag of vacant places alone");
+    }
+}
+
+/* A card withdrawn and added again in a sheet of that version: the sheet of the shelf without it, and the old bytes. */
+static void check_withdrawn(unsigned version)
+{
+    uint8_t full[92], less[92], got[92], back[92];
+    const uint8_t card = 2;
+    size_t len = bench_sheet(version, 5, "1234567", full);
+    bench_sheet(version, 5, "1-34567", less);
+    second_replace(zero_keys, 48, full, len, 2, &card, 1, NULL, 0, got, 92);
+    expect(memcmp(got, less, len) == 0, "card 2 withdrawn is tagging afresh, in the same version");
+    second_replace(zero_keys, 48, got, len, 2, NULL, 0, &card, 1, back, 92);
+    expect(memcmp(back, full, len) == 0, "card 2 added again gives the old bytes");
+    second_replace(zero_keys, 48, less, len, 2, NULL, 0, NULL, 0, back, 92);
+    expect(memcmp(back, less, len) == 0, "a place that stays vacant changes nothing");
 }
 
 /* The sheet of the bench shelf in version 1, as it was before there were numbers; and that of number 0, which differs in its head and its
  * seal alone, and holds for either shelf, as the other does. */
 static void check_versions(void)
 {
-    uint8_t keys[48] = {0}, stored[88], shelf[BENCH], numbered[BENCH], old[88], new[92];
+    const uint8_t *keys = zero_keys;
+    uint8_t stored[88], shelf[BENCH], numbered[BENCH], old[88], new[92];
     from_hex("5442540001010007"
              "4bdf0e9c64a496fbbd40888cea13db6819465b138e64e5a3991216b2d984ad03"
              "c8e3b27d8969805e09b431d2a67d7a2c6958adadb3c0b104f7dbe56c164c2cac"
              "68bf1d14ea9b7f8d61a47e825488af6a", stored);
-    size_t len = bench_shelf(1, 0, 0, 0, shelf), numbered_len = bench_shelf(2, 0, 0, 0, numbered);
+    size_t len = bench_shelf(1, 0, "1234567", shelf), numbered_len = bench_shelf(2, 0, "1234567", numbered);
     expect(second_tag_in(1, keys, 48, 1, shelf, len, old, 88).number == 0 && memcmp(old, stored, 88) == 0, "the stored sheet");
-    expect(second_tag(keys, 48, 1, shelf, len, new, 91).number == 7, "no room for version 2");
-    expect(second_tag(keys, 48, 1, shelf, len, new, 92).number == 0, "room for version 2");
-    expect(memcmp(new, "TBT\0\2\0\0\0\0\1\0\7", 12) == 0 && memcmp(new + 12, stored + 8, 64) == 0, "number 0 has the same tags");
+    expect(second_tag(keys, 48, 1, shelf, len, new, 91).number == 7, "no room for version 3");
+    expect(second_tag(keys, 48, 1, shelf, len, new, 92).number == 0, "room for version 3");
+    expect(memcmp(new, "TBT\0\3\0\0\0\0\1\0\7", 12) == 0 && memcmp(new + 12, stored + 8, 64) == 0, "number 0 has the same tags");
     expect(second_verify(keys, 48, shelf, len, old, 88).yes && second_verify(keys, 48, shelf, len, new, 92).yes
                && second_verify(keys, 48, numbered, numbered_len, old, 88).yes
                && second_verify(keys, 48, numbered, numbered_len, new, 92).yes, "number 0 in either version");
     numbered[5] = 1;
     expect(second_verify(keys, 48, numbered, numbered_len, old, 88).number == 25, "another number than the sheet of version 1");
-    expect(second_verify(keys, 48, numbered, numbered_len, new, 92).number == 25, "another number than the sheet of version 2");
+    expect(second_verify(keys, 48, numbered, numbered_len, new, 92).number == 25, "another number than the sheet of version 3");
     numbered[4] = 3;
-    expect(second_verify(keys, 48, numbered, numbered_len, new, 92).number == 3, "a version that there is not");
+    expect(second_verify(keys, 48, numbered, numbered_len, new, 92).number == 3, "a shelf has no version 3");
+    new[4] = 4;
+    expect(second_verify(keys, 48, shelf, len, new, 92).number == 6, "a sheet has no version 4");
+    new[4] = 0;
+    expect(second_verify(keys, 48, shelf, len, new, 92).number == 6, "a sheet has no version 0");
 }
 
 /* A shelf of one empty card, one byte fewer and one more. */
@@ -757,15 +875,15 @@ static void check_print(size_t len, uint8_t said, unsigned version, uint8_t numb
     char printed[MOST_PRINTED];
     input[48] = 1;
     input[50] = said;
-    bench_shelf(1, 0, 0, 0, input + FRONT);
-    bench_shelf(version, number, 2, 1, input + FRONT + 28);
+    bench_shelf(1, 0, "1234567", input + FRONT);
+    bench_shelf(version, number, "1934567", input + FRONT + 28);
     expect(second_print(input, len, printed) == strlen(want) && strcmp(printed, want) == 0, what);
 }
 
-int second_check(void)
+/* The published vectors, and what the bench cards say of the S-box, of doubling and of the rows. */
+static void check_parts(void)
 {
     uint8_t block[16] = {0x80}, doubled[16] = {0};
-    failed = 0;
     check_cipher("2b7e151628aed2a6abf7158809cf4f3c", "3243f6a8885a308d313198a2e0370734", "3925841d02dc09fbdc118597196a0b32",
                  "FIPS 197, appendix B");
     check_cipher("000102030405060708090a0b0c0d0e0f", "00112233445566778899aabbccddeeff", "69c4e0d86a7b0430d8cdb78070b4c55a",
@@ -783,10 +901,22 @@ int second_check(void)
     expect(on[1][4][1] && on[1][6][1] && on[1][7][1], "size 1, card 1 is on rows 4 6 7");
     expect(memcmp(on[2][1] + 1, "\0\0\0\1\0\0\1\1\0\0\0\0\1\0\1\0\0\0\0\0\0", 21) == 0, "size 2, row 1 holds 4 7 8 13 15");
     expect(memcmp(parts[1][5] + 1, "\1\1\1\0", 4) == 0, "size 1, row 5 is rows 1, 2, 3");
-    check_bench(1, 0);
-    check_bench(2, 0);
-    check_bench(2, 5);
+}
+
+int second_check(void)
+{
+    failed = 0;
+    check_parts();
+    for (unsigned version = 1; version <= SHEET_VERSIONS; version++) {
+        check_reports(version, 0);
+        check_withdrawn(version);
+    }
+    check_reports(2, 5);
+    check_reports(3, 5);
     check_versions();
+    check_codes();
+    check_vacancies();
+    check_stored();
     check_one_empty((const uint8_t *)"TBS\0\1\0\1\0\0", 9);
     check_one_empty((const uint8_t *)"TBS\0\2\0\0\0\5\0\1\0\0", 13);
     check_print(107, 28, 1, 0, "cards 7 tags 4 limit 2\nnamed 1 rows 3\ncard 2\n", "the report program's example");

@@ -11,6 +11,10 @@
 #define MOST_CARDS 273
 #define MOST_TAGS 82
 
+/* How many versions the two files have, from 1. Version 3 of a sheet is laid out as version 2. */
+#define SHELF_VERSIONS 2u
+#define SHEET_VERSIONS 3u
+
 struct plane {
     unsigned cards, tags, limit;
     unsigned list[17]; /* limit + 1 differences */
@@ -30,10 +34,11 @@ struct result {
 /* Works out the tables; to be called once, before all else. Returns 0, or 1 if the planes are not what they should be. */
 int second_start(void);
 
-/* The published vectors of the cipher and of CMAC and the bench cards of the requirements. Returns how many fail, naming each. */
+/* The published vectors of the cipher and of CMAC, the bench cards of the requirements, and worked cases of versions and vacant places. Returns
+ * how many fail, naming each. */
 int second_check(void);
 
-/* The four calls, on files of both versions. Output is written when the call is done, and not a byte when it refuses. */
+/* The four calls, on files of every version. Output is written when the call is done, and not a byte when it refuses. */
 struct result second_tag(const uint8_t *keys, size_t keys_len, uint64_t size, const uint8_t *shelf, size_t shelf_len, uint8_t *out,
                          size_t out_len);
 struct result second_verify(const uint8_t *keys, size_t keys_len, const uint8_t *shelf, size_t shelf_len, const uint8_t *sheet,
@@ -44,7 +49,7 @@ struct result second_replace(const uint8_t *keys, size_t keys_len, const uint8_t
                              const uint8_t *old_card, size_t old_len, const uint8_t *new_card, size_t new_len, uint8_t *out,
                              size_t out_len);
 
-/* As second_tag, which writes version 2, but a sheet of that version, 1 or 2. Version 1 has no number: its codes are under number 0. */
+/* As second_tag, which writes version 3, but a sheet of that version, 1 to 3. Version 1 has no number: its codes are under number 0. */
 struct result second_tag_in(unsigned version, const uint8_t *keys, size_t keys_len, uint64_t size, const uint8_t *shelf, size_t shelf_len,
                             uint8_t *out, size_t out_len);
 
@@ -67,8 +72,11 @@ void second_encipher(const uint8_t key[16], const uint8_t in[16], uint8_t out[16
 void second_decipher(const uint8_t key[16], const uint8_t in[16], uint8_t out[16]);
 void second_double(uint8_t block[16]);
 void second_cmac(const uint8_t key[16], const uint8_t *bytes, size_t len, uint8_t out[16]);
-void second_code(const uint8_t keys[48], uint32_t shelf_number, unsigned card_number, const uint8_t *card, size_t len, uint8_t out[16]);
 int second_on_row(unsigned size, unsigned row, unsigned card);
+
+/* The code of a card in a sheet of that version; in version 3 a card of length 0 is a vacant place, and its code is 16 zero bytes. */
+void second_code(const uint8_t keys[48], unsigned version, uint32_t shelf_number, unsigned card_number, const uint8_t *card, size_t len,
+                 uint8_t out[16]);
 
 /* Whether the row of a tag is one of those whose XOR is a row. */
 int second_is_part(unsigned size, unsigned row, unsigned tag);
