@@ -78,8 +78,9 @@ uint64_t gtm_report(const uint8_t *keys, size_t keys_len, const uint8_t *shelf, 
                     size_t sheet_len, uint8_t *marks, size_t marks_len);
 
 /* Writes the sheet for the shelf with one card replaced, as long as the one given and of its version. The old card has
- * to be the one that was tagged: another goes unnoticed. With new_len 0 the card is withdrawn and its place is vacant;
- * with old_len 0 a card is added at a vacant place. */
+ * to be the one that was tagged: another goes unnoticed. With new_len 0 the card is withdrawn, with old_len 0 one is
+ * added where there was none: the place is vacant to a sheet of version 3, and an empty card to an older one. That it
+ * was empty is not checked. */
 uint64_t gtm_replace(const uint8_t *keys, size_t keys_len, const uint8_t *sheet, size_t sheet_len, uint64_t number, const uint8_t *old_card,
                      size_t old_len, const uint8_t *new_card, size_t new_len, uint8_t *out, size_t out_len);
 

@@ -2,11 +2,12 @@
  *
  *     differential [count [seed [case]]]
  *
- * The first cases are listed ones, about versions, heads and the room for a sheet, whose cards are random; the others are random altogether.
- * Every buffer handed over lies against a page that may not be touched, in front of it or behind it. Compared are the result, every byte of the
- * lent buffer, the bytes around it, and that no input was changed. What the second implementation gives is held against the requirements too: a card
- * replaced is the shelf tagged afresh, and a report names the cards that demand 3 says. A case depends on the seed and its own number alone, so that a
- * third argument runs a single case again. */
+ * The first cases are listed ones, about versions, heads and the room for a sheet, whose cards are random; the others
+ * are random altogether. Every buffer handed over lies against a page that may not be touched, in front of it or behind
+ * it. Compared are the result, every byte of the lent buffer, the bytes around it, and that no input was changed. What
+ * the second implementation gives is held against the requirements too: a card replaced is the shelf tagged afresh, and
+ * a report names the cards that demand 3 says. A case depends on the seed and its own number alone, so that a third
+ * argument runs a single case again. */
 #define _DEFAULT_SOURCE
 #include "gtm.h"
 #include "inputs.h"
@@ -220,7 +221,7 @@ static unsigned long shares[3];                             /* shelves tagged: n
 static unsigned long replaced[4][4];                        /* by the sheet's version: a card by a card, added, withdrawn, vacant by vacant */
 static unsigned long turned[4][4];                          /* and cards of reports: added, named of them; withdrawn, named of them */
 static unsigned long premises[4][2];                        /* and reports in which no row cancels, and in which one does */
-static unsigned long unseen[2];                             /* added and withdrawn in a shelf that is intact by version 3: their code is zero */
+static unsigned long unseen[2];                             /* added and withdrawn under version 3 with a code of zero: no row shows them */
 
 static uint64_t some_size_code(void)
 {
@@ -336,10 +337,11 @@ static void compare_cards(void)
     }
 }
 
+static const uint8_t zero[16] = {0};
+
 /* Whether a row holds a changed card and its old and new codes have equal XORs. */
 static int cancels(unsigned row)
 {
-    static const uint8_t zero[16] = {0};
     uint8_t sum[16] = {0};
     int holds = 0;
     for (unsigned j = 1; j <= cards.count; j++) {
@@ -361,7 +363,7 @@ static int some_row_cancels(void)
 }
 
 /* Counts the cards that were added and withdrawn. */
-static void count_turned(struct result r)
+static void count_turned(void)
 {
     unsigned long *by = turned[sheet_version];
     for (unsigned j = 1; j <= cards.count; j++) {
@@ -370,7 +372,7 @@ static void count_turned(struct result r)
             continue;
         by[was_vacant ? 0 : 2]++;
         by[was_vacant ? 1 : 3] += out.bytes[j - 1];
-        unseen[was_vacant ? 0 : 1] += sheet_version == 3 && r.answer == 0;
+        unseen[was_vacant ? 0 : 1] += sheet_version == 3 && memcmp(moved[j], zero, 16) == 0;
     }
 }
 
@@ -393,7 +395,7 @@ static void check_detection(struct result r)
     if (premise && r.answer != (changes == 0 ? 0 : changes <= limit ? 1 : 2))
         differs("the answer where so many changed", (unsigned)r.answer, changes);
     premises[sheet_version][premise ? 0 : 1]++;
-    count_turned(r);
+    count_turned();
 }
 
 /* ---- The listed cases ---- */
@@ -518,6 +520,45 @@ static void choose_card(struct chosen *c)
     memcpy(old_card.bytes, cards.card[c->number], old_card.len);
 }
 
+/* What a listed case is about. */
+static void spoil(const struct plan *p, struct chosen *c)
+{
+    switch (p->about) {
+    case SHELF_CUT:
+        if (p->value < shelf.len)
+            shelf.len = p->value;
+        break;
+    case SHELF_LABEL: put_two(shelf.bytes + 3, p->value); break;
+    case SHEET_CUT:
+        sheet.len = p->value;
+        c->honest = 0;
+        break;
+    case SHEET_LABEL:
+        put_two(sheet.bytes + 3, p->value);
+        reseal();
+        c->honest = 0;
+        break;
+    case SHEET_LENGTH:
+        fill(sheet.bytes + sheet.len, 16);
+        sheet.len = sheet.len + p->value - 100;
+        reseal();
+        c->honest = 0;
+        break;
+    case LENT: out.len = second_sheet_len(SHEET_VERSIONS, cards.size) + p->value - 100; break;
+    default: /* the sheet is that of the second number */
+        cards.version = p->shelf_version;
+        cards.number = p->numbers[0];
+        if (p->about == NUMBERS_AND_COUNT)
+            change_count(&cards);
+        else if (p->about == NUMBERS_AND_SEAL)
+            flip(sheet.bytes + sheet.len - 16, 16);
+        else if (p->about == NUMBERS_AND_ROOM && out.len)
+            out.len--;
+        lay_out();
+        break;
+    }
+}
+
 static struct chosen listed_case(const struct plan *p)
 {
     struct chosen c = {.call = p->call};
@@ -539,40 +580,7 @@ static struct chosen listed_case(const struct plan *p)
         fill(new_card.bytes, new_card.len);
     }
     out.len = c.call == VERIFY ? 0 : c.call == REPORT ? cards.count : second_sheet_len(sheet_version, cards.size);
-    switch (p->about) {
-    case SHELF_CUT:
-        if (p->value < shelf.len)
-            shelf.len = p->value;
-        break;
-    case SHELF_LABEL: put_two(shelf.bytes + 3, p->value); break;
-    case SHEET_CUT:
-        sheet.len = p->value;
-        c.honest = 0;
-        break;
-    case SHEET_LABEL:
-        put_two(sheet.bytes + 3, p->value);
-        reseal();
-        c.honest = 0;
-        break;
-    case SHEET_LENGTH:
-        fill(sheet.bytes + sheet.len, 16);
-        sheet.len = sheet.len + p->value - 100;
-        reseal();
-        c.honest = 0;
-        break;
-    case LENT: out.len = second_sheet_len(SHEET_VERSIONS, cards.size) + p->value - 100; break;
-    default: /* the sheet is that of the second number */
-        cards.version = p->shelf_version;
-        cards.number = p->numbers[0];
-        if (p->about == NUMBERS_AND_COUNT)
-            change_count(&cards);
-        else if (p->about == NUMBERS_AND_SEAL)
-            flip(sheet.bytes + sheet.len - 16, 16);
-        else if (p->about == NUMBERS_AND_ROOM && out.len)
-            out.len--;
-        lay_out();
-        break;
-    }
+    spoil(p, &c);
     fill(out.bytes, out.len);
     return c;
 }

@@ -3,9 +3,10 @@
  *     reports program [count [seed [case]]]
  *
  * First come the listed inputs: the edges of the format, every size and count, cards withdrawn and added, versions and
- * numbers, every refusal; then `count` random ones. A case depends on the seed and its own number alone, so that a fourth argument runs a single
- * case again. Input is handed over as a file or through a pipe, in pieces of several lengths. Any difference, a status
- * other than 0, a signal, or no end within some seconds fails; the input is then kept in a file. */
+ * numbers, every refusal; then `count` random ones. A case depends on the seed and its own number alone, so that a
+ * fourth argument runs a single case again. Input is handed over as a file or through a pipe, in pieces of several
+ * lengths. Any difference, a status other than 0, a signal, or no end within some seconds fails; the input is then kept
+ * in a file. */
 #define _GNU_SOURCE
 #include "inputs.h"
 

@@ -80,12 +80,12 @@ module _ (keys : List ℕ) (b : Bytes keys) (k48 : length keys ≡ 48) (h : Head
 
   -- and a number among theirs
   module _ (j : ℕ) (low : 1 ≤ j) (high : j ≤ h .count) where
-    -- "withdraw a card (new length 0)": Replace is tagging afresh with place j vacant.
+    -- "withdraw a card (new length 0)": Replace is tagging afresh with no bytes in place j, in any version.
     pub withdraws : (out : List ℕ) → replaceRefusal keys (tagFile (keysIn keys) h items) j (items j) [] (length out) ≡ none
         → replaceWrites keys (tagFile (keysIn keys) h items) j (items j) [] out ≡ tagFile (keysIn keys) h (replacedItem items j []) ++ drop (fileSize h) out
     withdraws out e = replace-afresh keys b k48 h stamped fit items bytes j low high [] out e
 
-    -- From version 3 on its tags are those of the other items alone.
+    -- From version 3 on the sums of its tags are those of the other items alone.
     pub withdrawn : 3 ≤ h .stamp .version → (k : ℕ)
         → tagSum (keysIn keys) (h .stamp) (h .code) (replacedItem items j []) (h .count) k
         ≡ sumOver (λ i. familyOf (h .code) .on (familyOf (h .code) .rowOfTag k) i && not (eqb i j)) (hashes (keysIn keys) (h .stamp) items) (h .count)
@@ -101,7 +101,7 @@ module _ (keys : List ℕ) (b : Bytes keys) (k48 : length keys ≡ 48) (h : Head
         ∙ sum-ext _ _ (hashes K st (replacedItem items j [])) (hashes K st items) (h .count) (λ i l u. refl)
         (λ i l u e. ap (λ (t : Bool). itemHash (K .item) st i (if t then [] else items i)) (not-true (eqb i j) (and-right (F .on (F .rowOfTag k) i) _ e)))
 
-    -- "or add one (old length 0)": where place j is vacant, Replace is tagging afresh with the item added.
+    -- "or add one (old length 0)": where place j has no bytes, Replace is tagging afresh with the item added, in any version.
     pub adds : (new out : List ℕ) → items j ≡ [] → replaceRefusal keys (tagFile (keysIn keys) h items) j [] new (length out) ≡ none
         → replaceWrites keys (tagFile (keysIn keys) h items) j [] new out ≡ tagFile (keysIn keys) h (replacedItem items j new) ++ drop (fileSize h) out
     adds new out e =

@@ -184,7 +184,7 @@ pub shut : (item out : List ℕ) → (putRefusal closed item ≡ refusal 24 0) �
 unfolding putRefusal closeRefusal refuse24 isOpen closed countFits known first
 shut item out = (refl, refl)
 
--- Document 02, 2.5: a put of an empty item is refused for the session alone; where it passes it adds nothing to the sums, and counts as an item.
+-- Document 02, 2.5: a put of an empty item is refused by 24 and 22 alone; where it passes it adds nothing to the sums, and counts as an item.
 pub put-vacant : (s : Session) → length (s .sums) ≡ 1312
     → (putRefusal s [] ≡ first (refuse24 s ∷ refuse22 s ∷ []))
     × (putRefusal s [] ≡ none

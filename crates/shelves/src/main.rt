@@ -1,6 +1,7 @@
 // Whole shelves of every size, a line of `stdin` a case in the words of trial's `line`: sessions and Replace against Tag, and reports with 0, 1,
-// d and d + 1 cards altered, withdrawn or added, in every version, with a number and without, with vacant places and without. `stdout` has
-// what is right, counted from document 01's difference lists. Last, the session whose cards are too long for one shelf.
+// d and d + 1 cards altered, withdrawn or added, in every version, with a number and without, with vacant places and without. Sessions that
+// do not add the last places close with the sheet of the shelf in which these are vacant. `stdout` has what is right, counted from document
+// 01's difference lists. Last, the session whose cards are too long for one shelf.
 use trial::inputs;
 use trial::inputs::KEYS;
 use trial::say;
