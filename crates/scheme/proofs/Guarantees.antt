@@ -148,6 +148,10 @@ verify-yes keys s f e =
 
 -- ---- Replace
 
+pub replaced-there : (items : ℕ → List ℕ) (j : ℕ) (new : List ℕ) → replacedItem items j new j ≡ new
+unfolding replacedItem
+replaced-there items j new = ap (λ (t : Bool). if t then new else items j) (eq-eqb j j refl)
+
 -- an unaltered file of items, in any version, and a number among theirs
 module _ (keys : List ℕ) (b : Bytes keys) (k48 : length keys ≡ 48) (h : Head) (stamped : stampFits newestTagFile (h .stamp) ≡ true)
     (fit : countFits (h .code) (h .count) ≡ true) (items : ℕ → List ℕ) (bytes : (i : ℕ) → 1 ≤ i → i ≤ h .count → Bytes (items i))
@@ -160,8 +164,8 @@ module _ (keys : List ℕ) (b : Bytes keys) (k48 : length keys ≡ 48) (h : Head
 
   -- the hash of item j alone is another
   new-there : hashes (keysIn keys) st (replacedItem items j new) j ≡ itemHash (keysIn keys .item) st j new
-  unfolding hashes replacedItem
-  new-there = ap (λ (t : Bool). itemHash (keysIn keys .item) st j (if t then new else items j)) (eq-eqb j j refl)
+  unfolding hashes
+  new-there = ap (itemHash (keysIn keys .item) st j) (replaced-there items j new)
 
   others-stay : (i : ℕ) → (i ≡ j → ⊥) → hashes (keysIn keys) st items i ≡ hashes (keysIn keys) st (replacedItem items j new) i
   unfolding hashes replacedItem

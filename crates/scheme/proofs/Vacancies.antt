@@ -1,7 +1,7 @@
 -- Vacant places (document 02, 2.5), for a reader who wants to know what they are good for: a vacant place counts as no item, and those at the
 -- end change no tag; Replace withdraws an item and adds one, each as tagging afresh does, and an item withdrawn and added again gives the old
 -- bytes; an item against a vacant place is a change.
-use Rattle.fips197.proofs.Kit.{_≡_, refl, sym, ap, _∙_, subst, Bool, true, false, not, _&&_, List, [], _++_, ℕ, suc, _≤_, _<_, arith, eqb, length, take, drop, take-at, eq-eqb, eqb-true, not-true, not-false}
+use Rattle.fips197.proofs.Kit.{_≡_, refl, sym, ap, _∙_, subst, Bool, true, false, not, _&&_, List, [], _++_, ℕ, suc, _≤_, _<_, arith, eqb, length, take, drop, take-at, eqb-true, not-true, not-false}
 use Rattle.blocks.specs.Block.{if_then_else_, Bytes, same, zeros}
 use Rattle.blocks.proofs.Xor.{same-true}
 use Rattle.blocks.proofs.Slots.{listOf-ext}
@@ -25,7 +25,7 @@ use Rattle.checks.specs.Refused.{replaceRefusal}
 use Rattle.scheme.specs.Calls.{replacedItem, replaceWrites}
 use Rattle.scheme.specs.Claim.{changed}
 use Rattle.scheme.proofs.Unaltered.{KeyBlocks, key-blocks, hashes-long, tags-are}
-use Rattle.scheme.proofs.Guarantees.{replace-passes, replace-afresh}
+use Rattle.scheme.proofs.Guarantees.{replaced-there, replace-passes, replace-afresh}
 
 -- ---- no item
 
@@ -49,10 +49,6 @@ module _ (K : Keys) (long : length (K .item) ≡ 16) (st : Stamp) (items : ℕ �
   end-alone F m n i l e = sum-front (F .on i) (hashes K st items) m n (hashes-long K long st items) l (λ j a b. zero-hash j (e j a b))
 
 -- ---- items replaced
-
-replaced-there : (items : ℕ → List ℕ) (j : ℕ) (new : List ℕ) → replacedItem items j new j ≡ new
-unfolding replacedItem
-replaced-there items j new = ap (λ (t : Bool). if t then new else items j) (eq-eqb j j refl)
 
 -- the old item put back
 replaced-back : (items : ℕ → List ℕ) (j : ℕ) (new : List ℕ) → replacedItem (replacedItem items j new) j (items j) ≡ items
