@@ -4,7 +4,7 @@ use Rattle.fips197.proofs.Kit.{_≡_, refl, sym, ap, ap₂, _∙_, Bool, true, 
 use Rattle.blocks.specs.Block.{if_then_else_, _⊕_, zeros}
 use Rattle.incidence.specs.Family.{parity}
 use Rattle.polynomials.specs.Polynomial.{longer, polySize, raised, gcd}
-use Rattle.polynomials.proofs.Parity.{xor-none, xor-turn, xor-four, xor-self, xor-and, parity-ext, parity-append, parity-map}
+use Rattle.incidence.proofs.Parity.{xor-none, xor-turn, xor-four, xor-self, xor-and, parity-ext, parity-append, parity-map}
 use Rattle.polynomials.proofs.Sizes.{size-most}
 use Rattle.polynomials.proofs.Acting.{Bits, act, act-sum, act-zero, act-zeros, act-raised, act-none}
 use Rattle.polynomials.proofs.Lessening.{Poly, poly-raised, poly-sum, bits-zeros}

@@ -1,24 +1,16 @@
 -- Of any matrix whose first t rows are independent: two lists of steps that yield row t + 1 have the same steps an odd number of times. So one
 -- choice of steps alone yields it, and no list of fewer does.
 use Rattle.fips197.proofs.Kit.{_≡_, refl, sym, ap, ap₂, _∙_, Bool, true, false, _&&_, xor, and-true, and-false, and-comm, List, [], _∷_, _++_, _⊎_, inl, inr, ℕ, zero, suc, _+_, _-_, _≤_, _<_, arith, eqb, length, eqb-true, eqb-false, eq-eqb, ne-eqb}
-use Rattle.blocks.specs.Block.{if_then_else_}
 use Rattle.incidence.specs.Count.{indicator, countUpTo, listed}
 use Rattle.incidence.specs.Family.{parity}
 use Rattle.incidence.proofs.Counting.{last-or, bit-most, count-ext, count-none}
 use Rattle.incidence.proofs.Booleans.{not-both}
 use Rattle.incidence.proofs.Listing.{listed-length, listed-ext}
-use Rattle.polynomials.proofs.Parity.{xor-turn, xor-none, xor-self, xor-same, parity-none, parity-append, parity-map, parity-swap, parity-last}
+use Rattle.incidence.proofs.Parity.{xor-turn, xor-none, xor-self, xor-same, parity-none, parity-append, parity-map, parity-swap, parity-next}
 use Rattle.deriving.specs.Shortest.{Within, xorBack, Pattern, OnlyPattern, FewestSteps, Independent}
 use Rattle.deriving.proofs.Matrices.{within-ext, listed-within, back, back-within}
 
 -- ---- the parity of a test over the numbers that pass another
-
-parity-next : (p c : ℕ → Bool) (n : ℕ) → parity p (listed c (suc n)) ≡ xor (parity p (listed c n)) (c (suc n) && p (suc n))
-parity-next p c n = go (c (suc n))
-  where
-    go : (b : Bool) → parity p (if b then listed c n ++ (suc n ∷ []) else listed c n) ≡ xor (parity p (listed c n)) (b && p (suc n))
-    go true = parity-last p (listed c n) (suc n)
-    go false = sym (xor-turn (parity p (listed c n)) false ∙ xor-none (parity p (listed c n)))
 
 -- the two tests may change places
 parity-turn : (p c : ℕ → Bool) (n : ℕ) → parity p (listed c n) ≡ parity c (listed p n)

@@ -5,7 +5,7 @@ use Rattle.fips197.proofs.Kit.{_≡_, refl, sym, ap, ap₂, _∙_, Bool, true, 
 use Rattle.incidence.specs.Family.{parity}
 use Rattle.plane.specs.Plane.{member, on}
 use Rattle.plane.proofs.Cyclic.{on-inside}
-use Rattle.polynomials.proofs.Parity.{parity-ext, parity-none, parity-swap}
+use Rattle.incidence.proofs.Parity.{parity-ext, parity-none, parity-swap}
 use Rattle.deriving.specs.Shortest.{Within, xorBack, Yields}
 use Rattle.deriving.proofs.Matrices.{within-ext}
 

@@ -8,7 +8,7 @@ use Rattle.incidence.specs.Family.{parity}
 use Rattle.incidence.proofs.Listing.{listed-ext}
 use Rattle.plane.specs.Plane.{member, on}
 use Rattle.polynomials.specs.Polynomial.{polySize}
-use Rattle.polynomials.proofs.Parity.{xor-none, xor-turn, xor-same, parity-ext, parity-map, parity-last}
+use Rattle.incidence.proofs.Parity.{xor-none, xor-turn, xor-same, parity-ext, parity-map, parity-last}
 use Rattle.polynomials.proofs.Sizes.{size-most}
 use Rattle.polynomials.proofs.Acting.{act}
 use Rattle.polynomials.proofs.Lessening.{size-at, size-above}

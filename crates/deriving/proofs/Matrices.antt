@@ -6,7 +6,7 @@ use Rattle.incidence.specs.Family.{parity}
 use Rattle.incidence.proofs.Booleans.{not-both, not-passed}
 use Rattle.incidence.proofs.Counting.{Found, any-found, any-some, last-or}
 use Rattle.deriving.specs.Shortest.{Within, xorBack, Yields, Fails, NoShorterPattern, NoShorterRow, Independent}
-use Rattle.polynomials.proofs.Parity.{xor-same, xor-self, parity-last}
+use Rattle.incidence.proofs.Parity.{xor-same, xor-self, parity-last}
 
 module _ (m : ℕ) (on : ℕ → ℕ → Bool) (Q : List ℕ) (i : ℕ) where
   -- whether row i and the XOR differ at card j

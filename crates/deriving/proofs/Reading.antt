@@ -5,7 +5,7 @@ use Rattle.blocks.specs.Block.{if_then_else_}
 use Rattle.plane.specs.Plane.{member, on}
 use Rattle.plane.proofs.Cyclic.{on-inside}
 use Rattle.polynomials.specs.Polynomial.{polySize}
-use Rattle.polynomials.proofs.Parity.{xor-none, xor-turn}
+use Rattle.incidence.proofs.Parity.{xor-none, xor-turn}
 use Rattle.polynomials.proofs.Acting.{act, act-take, size-tail, take-few, zeros-at}
 use Rattle.polynomials.proofs.Lessening.{size-by}
 use Rattle.polynomials.proofs.Recurring.{act-quiet}

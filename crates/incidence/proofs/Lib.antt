@@ -2,6 +2,7 @@
 pub mod Booleans
 pub mod Counting
 pub mod Listing
+pub mod Parity
 pub mod Pigeonhole
 pub mod Sums
 pub mod Reports

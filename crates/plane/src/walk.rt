@@ -6,7 +6,6 @@ ghost use mathlib.Core.Path.{_≡_};
 ghost use mathlib.Core.List.{_++_};
 ghost use Prim.Native.Nat.{_-_, _≤_, _<_};
 ghost use lib.ListN.{length, getD, drop};
-ghost use Rattle.incidence.specs.Count.{inside};
 ghost use Rattle.incidence.specs.Family.{rowsOf, itemsOf};
 ghost use Rattle.plane.specs.Table.{planeItems};
 ghost use Rattle.plane.specs.Plane.{plane};
@@ -14,13 +13,6 @@ ghost use Rattle.plane.specs.Walk.{Walk, along};
 
 // The most rows that hold an item, and the most items that a row holds: d + 1 where d is 16.
 pub const MOST: usize = 17;
-
-// Whether i is one of the numbers 1 to n.
-fn inside(n: usize, i: usize) -> bool
-    ensures { λ r. ⌜ r ≡ inside n i ⌝ }
-{
-    1 <= i && i <= n
-}
 
 // The item at place k, from 0, of those that row i holds. The differences from place `turn` on go round to the first items, then the
 // others follow.
@@ -83,7 +75,7 @@ pub fn rows_of(s: usize, j: usize, out: &mut [usize; MOST]) -> usize
     ensures count { λ r. ⌜ r ≡ length (rowsOf (plane s) j) ⌝ }
 {
     let m = table::items(s);
-    if inside(m, j) {
+    if incidence::inside(m, j) {
         walk(s, m + 1 - j, true, out)
     } else {
         0
@@ -95,7 +87,7 @@ pub fn items_of(s: usize, i: usize, out: &mut [usize; MOST]) -> usize
     ensures written { λ _. ⌜ now (out .exit) ≡ itemsOf (plane s) i ++ drop (length (itemsOf (plane s) i)) (now (out .entry)) ⌝ }
     ensures count { λ r. ⌜ r ≡ length (itemsOf (plane s) i) ⌝ }
 {
-    if inside(table::items(s), i) {
+    if incidence::inside(table::items(s), i) {
         walk(s, i, false, out)
     } else {
         0

@@ -6,7 +6,7 @@ use Rattle.blocks.specs.Block.{_⊕_, zeros}
 use Rattle.incidence.specs.Count.{indicator}
 use Rattle.polynomials.specs.Polynomial.{longer, polySize, raised}
 use Rattle.polynomials.proofs.Sizes.{longer-most}
-use Rattle.polynomials.proofs.Parity.{xor-four, xor-none, and-xor}
+use Rattle.incidence.proofs.Parity.{xor-four, xor-none, and-xor}
 
 -- the coefficients are 0 or 1
 abbrev pub Bits : List ℕ → Type 0

@@ -6,7 +6,7 @@ use Rattle.incidence.specs.Count.{indicator}
 use Rattle.incidence.proofs.Booleans.{or-cases}
 use Rattle.incidence.proofs.Counting.{bit-most}
 use Rattle.polynomials.specs.Polynomial.{longer, polySize, raised, less, quotientIn, quotient}
-use Rattle.polynomials.proofs.Parity.{xor-none, xor-three, xor-turn, xor-self}
+use Rattle.incidence.proofs.Parity.{xor-none, xor-three, xor-turn, xor-self}
 use Rattle.polynomials.proofs.Sizes.{size-most}
 use Rattle.polynomials.proofs.Dividing.{quotient-goes}
 use Rattle.polynomials.proofs.Acting.{act, act-sum, act-raised, zeros-at}

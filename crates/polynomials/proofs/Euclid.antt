@@ -5,7 +5,7 @@ use Rattle.blocks.specs.Block.{_⊕_, zeros}
 use Rattle.blocks.proofs.Xor.{⊕-comm, ⊕-zeros}
 use Rattle.incidence.proofs.Booleans.{or-cases}
 use Rattle.polynomials.specs.Polynomial.{polySize, raised, less, gcdIn}
-use Rattle.polynomials.proofs.Parity.{xor-same}
+use Rattle.incidence.proofs.Parity.{xor-same}
 use Rattle.polynomials.proofs.Sizes.{size-most}
 use Rattle.polynomials.proofs.Raising.{raised-none}
 use Rattle.polynomials.proofs.Acting.{Bits, act, act-sum, act-none, act-raised, size-none}

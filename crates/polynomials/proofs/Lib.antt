@@ -2,7 +2,6 @@
 pub mod Sizes
 pub mod Raising
 pub mod Dividing
-pub mod Parity
 pub mod Acting
 pub mod Lessening
 pub mod Euclid

@@ -3,7 +3,7 @@
 use Rattle.fips197.proofs.Kit.{_≡_, refl, sym, ap, ap₂, _∙_, Bool, true, false, _&&_, xor, and-false, true≢false, List, [], _∷_, ℕ, zero, suc, _+_, _-_, _≤_, _<_, arith, eqb, length, take, eq-eqb, ne-eqb}
 use Rattle.incidence.proofs.Counting.{bit-most}
 use Rattle.polynomials.specs.Polynomial.{longer, polySize}
-use Rattle.polynomials.proofs.Parity.{xor-none, xor-self, xor-three, xor-turn}
+use Rattle.incidence.proofs.Parity.{xor-none, xor-self, xor-three, xor-turn}
 use Rattle.polynomials.proofs.Acting.{act, act-none, size-tail, take-few}
 use Rattle.polynomials.proofs.Lessening.{size-at}
 use Rattle.polynomials.proofs.Euclid.{Kills}

@@ -5,11 +5,12 @@ use Rattle.incidence.specs.Family.{rowsOf, itemsOf, parity}
 use Rattle.incidence.specs.Report.{cleared, named, numberNamed, disagreeing, holdsNamed, someUnexplained, answerBy, answer}
 use Rattle.plane.specs.Table.{itemCounts, planeItems, tagCounts, planeTags, limits, planeLimit, differenceLists, differences, patternLists, planePattern}
 use Rattle.plane.specs.Plane.{on, made, plane}
-use Rattle.sizes.specs.Sizes.{familyOf}
+use Rattle.affine.specs.Affine.{sized}
+use Rattle.sizes.specs.Sizes.{affineCode, familyOf}
 use Rattle.sizes.specs.Cases.{PlaneCases, agreesWith, disagree, suspects}
 
 pub planes : PlaneCases
-unfolding familyOf plane on made itemsOf rowsOf parity xor planeItems itemCounts planeTags tagCounts planeLimit limits differences differenceLists planePattern patternLists agreesWith disagree suspects cleared named numberNamed disagreeing holdsNamed someUnexplained answerBy answer
+unfolding familyOf affineCode sized plane on made itemsOf rowsOf parity xor planeItems itemCounts planeTags tagCounts planeLimit limits differences differenceLists planePattern patternLists agreesWith disagree suspects cleared named numberNamed disagreeing holdsNamed someUnexplained answerBy answer
 planes = record {
   row-1 = refl;
   row-4 = refl;

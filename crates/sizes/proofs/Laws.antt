@@ -1,50 +1,93 @@
 -- What a crate above may use of the size codes: every known code's family is lawful, the numbers are small, and a code that is none has
--- nothing. It needs nothing of planes.
-use Rattle.fips197.proofs.Kit.{_≡_, refl, ap, _∙_, Bool, true, false, List, _++_, ℕ, zero, suc, _≤_, _<_, arith, leb, length, getD, drop, List·getD-append, leb-true, leb-false}
+-- nothing. It needs nothing of planes and lines.
+use Rattle.fips197.proofs.Kit.{_≡_, refl, ap, _∙_, subst, sym, Bool, true, false, List, _++_, _⊎_, inl, inr, ℕ, zero, suc, _/_, _%_, _≤_, _<_, arith, leb, length, getD, drop, List·getD-append, leb-true, leb-false}
+use Rattle.blocks.specs.Block.{if_then_else_}
 use Rattle.incidence.specs.Count.{inside}
 use Rattle.incidence.specs.Family.{Family, Lawful, rowsOf, itemsOf}
-use Rattle.incidence.proofs.Booleans.{not-both}
+use Rattle.incidence.proofs.Booleans.{or-cases, or-first, or-second, not-both, not-passed}
 use Rattle.incidence.proofs.Counting.{inside-low, inside-high, inside-yes}
 use Rattle.plane.specs.Table.{itemCounts, planeItems, tagCounts, planeTags, limits, planeLimit}
 use Rattle.plane.specs.Plane.{plane}
 use Rattle.plane.proofs.Planes as planes
 use Rattle.plane.proofs.Walks as walks
 use Rattle.plane.proofs.Lookup.{items-most, tags-most, limit-most, no-items, no-tags, no-limit}
-use Rattle.sizes.specs.Sizes.{known, familyOf}
+use Rattle.affine.specs.Affine.{sized, affine}
+use Rattle.affine.proofs.Computing.{of-both, sized-offered}
+use Rattle.affine.proofs.Affines as affines
+use Rattle.sizes.specs.Sizes.{affineCode, known, familyOf}
 
-code-low : (c : ℕ) → known c ≡ true → 1 ≤ c
-unfolding known
-code-low c h = inside-low _ c h
+-- ---- by kind
 
-code-high : (c : ℕ) → known c ≡ true → c ≤ 4
+-- what holds of an affine size's family and of a plane holds of the code's
+by-kind : (P : Family → Type 0) (c : ℕ) → (affineCode c ≡ true → P (affine (c / 16) (c % 16))) → (affineCode c ≡ false → P (plane c)) → P (familyOf c)
+unfolding familyOf
+by-kind P c f g = go (affineCode c) refl
+  where
+    go : (b : Bool) → affineCode c ≡ b → P (if b then affine (c / 16) (c % 16) else plane c)
+    go true e = f e
+    go false e = g e
+
+module _ (c : ℕ) {s l : ℕ} {r : Bool} (e : r ≡ affineCode c) where
+  -- as the code finds it
+  pub affine-size : r ≡ true → s ≡ c / 16 → l ≡ c % 16 → sized s l ≡ true
+  unfolding affineCode
+  affine-size t p q = rw (p, q) (sym e ∙ t)
+
+  pub affine-family : r ≡ true → s ≡ c / 16 → l ≡ c % 16 → affine s l ≡ familyOf c
+  unfolding familyOf
+  affine-family t p q = rw (p, q, sym e ∙ t)
+
+pub plane-family : (c : ℕ) {r : Bool} → r ≡ affineCode c → r ≡ false → plane c ≡ familyOf c
+unfolding familyOf
+plane-family c e t = rw (sym e ∙ t)
+
+-- 1 to 4 is no affine size, and an affine size is below 64
+affine-low : (c : ℕ) → affineCode c ≡ true → c < 64
+unfolding affineCode
+affine-low c h = let n = of-both (λ s. s ≤ 3) (omega arith) (omega arith) (c / 16) (sized-offered (c / 16) (c % 16) h) in omega arith
+
+plane-code : (c : ℕ) → known c ≡ true → affineCode c ≡ false → inside 4 c ≡ true
 unfolding known
-code-high c h = inside-high _ c h
+plane-code c h e = go (or-cases (inside 4 c) (affineCode c) h)
+  where
+    go : (inside 4 c ≡ true) ⊎ (affineCode c ≡ true) → inside 4 c ≡ true
+    go (inl t) = t
+    go (inr t) = absurd (not-both (affineCode c) t e)
+
+-- ---- a size code
 
 module _ (c : ℕ) (h : known c ≡ true) where
   pub lawful : Lawful (familyOf c)
-  unfolding familyOf
-  lawful = planes.lawful c (code-low c h) (code-high c h)
+  unfolding affineCode
+  lawful =
+      by-kind Lawful c (affines.lawful (c / 16) (c % 16))
+      (λ e. let t = plane-code c h e in planes.lawful c (inside-low 4 c t) (inside-high 4 c t))
 
   -- a size code is a byte
   pub code-byte : c < 256
-  code-byte = omega (arith, code-high c h)
+  unfolding known
+  code-byte = go (or-cases (inside 4 c) (affineCode c) h)
+    where
+      go : (inside 4 c ≡ true) ⊎ (affineCode c ≡ true) → c < 256
+      go (inl t) = omega (arith, inside-high 4 c t)
+      go (inr t) = omega (arith, affine-low c t)
 
 -- at most 273, and 82 tags, whatever the code
 pub items-few : (c : ℕ) → familyOf c .items ≤ 273
-unfolding familyOf plane
-items-few = items-most
+unfolding affineCode plane
+items-few c = by-kind (λ F. F .items ≤ 273) c (λ e. omega (arith, affines.items-most (c / 16) (c % 16) e)) (λ e. items-most c)
 
 pub rows-few : (c : ℕ) → familyOf c .rows ≤ 273
-unfolding familyOf plane
-rows-few = items-most
+unfolding affineCode plane
+rows-few c = by-kind (λ F. F .rows ≤ 273) c (λ e. omega (arith, affines.rows-most (c / 16) (c % 16) e)) (λ e. items-most c)
 
 pub tags-few : (c : ℕ) → familyOf c .tags ≤ 82
-unfolding familyOf plane
-tags-few = tags-most
+unfolding affineCode plane
+tags-few c = by-kind (λ F. F .tags ≤ 82) c (λ e. omega (arith, affines.tags-most (c / 16) (c % 16) e)) (λ e. tags-most c)
 
 pub limit-few : (c : ℕ) → familyOf c .limit ≤ 273
-unfolding familyOf plane
-limit-few = limit-most
+unfolding affineCode plane
+limit-few c = by-kind (λ F. F .limit ≤ 273) c (λ e. omega (arith, affines.limit-most (c / 16) (c % 16) e)) (λ e. limit-most c)
 
 -- a code that is none
 pub record Empty (F : Family) : Type 0 where
@@ -53,10 +96,10 @@ pub record Empty (F : Family) : Type 0 where
   pub no-tags : F .tags ≡ 0
   pub no-limit : F .limit ≡ 0
 
-pub unknown : (c : ℕ) → known c ≡ false → Empty (familyOf c)
-unfolding familyOf plane known planeItems itemCounts planeTags tagCounts planeLimit limits
-unknown zero h = record { no-items = refl; no-rows = refl; no-tags = refl; no-limit = refl }
-unknown (suc c) h =
+no-plane : (c : ℕ) → inside 4 c ≡ false → Empty (plane c)
+unfolding plane planeItems itemCounts planeTags tagCounts planeLimit limits
+no-plane zero h = record { no-items = refl; no-rows = refl; no-tags = refl; no-limit = refl }
+no-plane (suc c) h =
     record { no-items = no-items (suc c) past; no-rows = no-items (suc c) past; no-tags = no-tags (suc c) past; no-limit = no-limit (suc c) past }
   where
     past : 5 ≤ suc c
@@ -66,14 +109,25 @@ unknown (suc c) h =
         go true e = absurd (not-both (inside 4 (suc c)) (inside-yes 4 (suc c) (omega arith) (leb-true (suc c) 4 e)) h)
         go false e = leb-false (suc c) 4 e
 
+pub unknown : (c : ℕ) → known c ≡ false → Empty (familyOf c)
+unfolding known
+unknown c h = by-kind Empty c (λ e. absurd (not-both _ (or-second (inside 4 c) e) h)) (λ e. no-plane c (not-passed _ (λ t. not-both _ (or-first (affineCode c) t) h)))
+
 -- what `rows_of` and `items_of` write fits into their buffer, and stands there
 pub row-list-few : (c j : ℕ) → length (rowsOf (familyOf c) j) ≤ 17
-unfolding familyOf
-row-list-few = walks.row-list-few
+unfolding affineCode
+row-list-few c j =
+    by-kind (λ F. length (rowsOf F j) ≤ 17) c (λ e. omega (arith, affines.row-list-few (c / 16) (c % 16) e j)) (λ e. walks.row-list-few c j)
 
 pub item-list-few : (c i : ℕ) → length (itemsOf (familyOf c) i) ≤ 17
-unfolding familyOf
-item-list-few = walks.item-list-few
+unfolding affineCode
+item-list-few c i =
+    by-kind (λ F. length (itemsOf F i) ≤ 17) c (λ e. omega (arith, affines.item-list-few (c / 16) (c % 16) e i)) (λ e. walks.item-list-few c i)
 
 pub written-at : (l was : List ℕ) {now : List ℕ} {n : ℕ} → (now ≡ l ++ drop (length l) was) × (n ≡ length l) → (k : ℕ) → k < n → getD now k 0 ≡ getD l k 0
 written-at l was w k h = ap (λ (x : List ℕ). getD x k 0) (w .0) ∙ List·getD-append l (drop (length l) was) 0 k (omega (arith, w .1))
+
+-- what one family's walk leaves in a buffer, another's that is the same does
+pub written-by : (list : Family → List ℕ) (o : List ℕ) {E F : Family} {out : List ℕ} {n : ℕ} → E ≡ F
+    → (out ≡ list E ++ drop (length (list E)) o) × (n ≡ length (list E)) → (out ≡ list F ++ drop (length (list F)) o) × (n ≡ length (list F))
+written-by list o {E} {F} {out} {n} e = subst (λ (G : Family). (out ≡ list G ++ drop (length (list G)) o) × (n ≡ length (list G))) e

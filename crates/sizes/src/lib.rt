@@ -3,24 +3,52 @@
 // range, `known` answers false and the others 0, and no rows and no items are written.
 ghost use mathlib.Core.Path.{_≡_};
 ghost use mathlib.Core.List.{_++_};
+ghost use Prim.Native.Nat.{_/_, _%_};
 ghost use lib.ListN.{length, getD, drop};
 ghost use Rattle.incidence.specs.Family.{rowsOf, itemsOf};
-ghost use Rattle.sizes.specs.Sizes.{known, familyOf};
+ghost use Rattle.sizes.specs.Sizes.{affineCode, known, familyOf};
 
 // How long a buffer for the rows of an item or the items of a row is: for every code, no list is longer.
 pub const MOST: usize = plane::walk::MOST;
+
+// What a code says of an affine size, 16 s + l: s.
+fn exponent(code: u64) -> usize
+    ensures { λ r. ⌜ r ≡ code / 16 ⌝ }
+{
+    (code / 16) as usize
+}
+
+// And l.
+fn lines(code: u64) -> usize
+    ensures { λ r. ⌜ r ≡ code % 16 ⌝ }
+{
+    (code % 16) as usize
+}
+
+// Whether a number is the code of an affine size.
+fn is_affine(code: u64) -> bool
+    ensures { λ r. ⌜ r ≡ affineCode code ⌝ }
+{
+    affine::table::sized(exponent(code), lines(code))
+}
 
 // Whether a number is a size code.
 pub fn known(code: u64) -> bool
     ensures { λ r. ⌜ r ≡ known code ⌝ }
 {
-    1 <= code && code <= 4
+    if incidence::inside(4, code as usize) {
+        return true;
+    }
+    is_affine(code)
 }
 
 // How many items a message may have (document 01: cards m).
 pub fn items(code: u64) -> usize
     ensures { λ r. ⌜ r ≡ familyOf code .items ⌝ }
 {
+    if is_affine(code) {
+        return affine::table::items(exponent(code), lines(code));
+    }
     plane::table::items(code as usize)
 }
 
@@ -28,6 +56,9 @@ pub fn items(code: u64) -> usize
 pub fn rows(code: u64) -> usize
     ensures { λ r. ⌜ r ≡ familyOf code .rows ⌝ }
 {
+    if is_affine(code) {
+        return affine::table::rows(exponent(code), lines(code));
+    }
     plane::table::items(code as usize)
 }
 
@@ -35,6 +66,9 @@ pub fn rows(code: u64) -> usize
 pub fn tags(code: u64) -> usize
     ensures { λ r. ⌜ r ≡ familyOf code .tags ⌝ }
 {
+    if is_affine(code) {
+        return affine::table::tags(exponent(code), lines(code));
+    }
     plane::table::tags(code as usize)
 }
 
@@ -42,6 +76,9 @@ pub fn tags(code: u64) -> usize
 pub fn limit(code: u64) -> usize
     ensures { λ r. ⌜ r ≡ familyOf code .limit ⌝ }
 {
+    if is_affine(code) {
+        return affine::table::limit(exponent(code), lines(code));
+    }
     plane::table::limit(code as usize)
 }
 
@@ -50,6 +87,9 @@ pub fn rows_of(code: u64, item: usize, out: &mut [usize; MOST]) -> usize
     ensures written { λ _. ⌜ now (out .exit) ≡ rowsOf (familyOf code) item ++ drop (length (rowsOf (familyOf code) item)) (now (out .entry)) ⌝ }
     ensures count { λ r. ⌜ r ≡ length (rowsOf (familyOf code) item) ⌝ }
 {
+    if is_affine(code) {
+        return affine::walk::rows_of(exponent(code), lines(code), item, out);
+    }
     plane::walk::rows_of(code as usize, item, out)
 }
 
@@ -58,6 +98,9 @@ pub fn items_of(code: u64, row: usize, out: &mut [usize; MOST]) -> usize
     ensures written { λ _. ⌜ now (out .exit) ≡ itemsOf (familyOf code) row ++ drop (length (itemsOf (familyOf code) row)) (now (out .entry)) ⌝ }
     ensures count { λ r. ⌜ r ≡ length (itemsOf (familyOf code) row) ⌝ }
 {
+    if is_affine(code) {
+        return affine::walk::items_of(exponent(code), lines(code), row, out);
+    }
     plane::walk::items_of(code as usize, row, out)
 }
 
@@ -65,6 +108,9 @@ pub fn items_of(code: u64, row: usize, out: &mut [usize; MOST]) -> usize
 pub fn tag_of_row(code: u64, row: usize) -> usize
     ensures { λ r. ⌜ r ≡ familyOf code .tagOfRow row ⌝ }
 {
+    if is_affine(code) {
+        return affine::walk::tag_of_row(exponent(code), lines(code), row);
+    }
     plane::walk::tag_of_row(code as usize, row)
 }
 
@@ -72,6 +118,9 @@ pub fn tag_of_row(code: u64, row: usize) -> usize
 pub fn made_count(code: u64, row: usize) -> usize
     ensures { λ r. ⌜ r ≡ length (familyOf code .made row) ⌝ }
 {
+    if is_affine(code) {
+        return affine::walk::made_count(exponent(code), lines(code), row);
+    }
     plane::walk::made_count(code as usize, row)
 }
 
@@ -79,5 +128,8 @@ pub fn made_count(code: u64, row: usize) -> usize
 pub fn made_at(code: u64, row: usize, k: usize) -> usize
     ensures { λ r. ⌜ r ≡ getD (familyOf code .made row) k 0 ⌝ }
 {
+    if is_affine(code) {
+        return affine::walk::made_at(exponent(code), lines(code), row, k);
+    }
     plane::walk::made_at(code as usize, row, k)
 }

@@ -1,13 +1,31 @@
--- The plane's.
-use Rattle.fips197.proofs.Kit.{needs}
+-- The affine size's or the plane's (Laws).
+use Rattle.fips197.proofs.Kit.{ap, _∙_, needs}
+use Rattle.incidence.specs.Family.{Family}
 use Rattle.plane.specs.Plane.{plane}
-use Rattle.sizes.specs.Sizes.{familyOf}
+use Rattle.sizes.proofs.Laws.{affine-size, affine-family, plane-family}
 use Rattle.sizes.proofs.limit.Statement.{statement}
 use Rattle.sizes.proofs.limit.Tie as tie
 
+limit-requires : tie.Need-limit-requires
+limit-requires c κs =
+    let t = c .before .before in
+    affine-size (t .before .before .args .code) (t .before .is-affine .ensures) (t .if1 .taken) (c .before .exponent .ensures) (c .lines .ensures)
+
 returns : tie.Need-returns
-unfolding familyOf plane
-returns c = c .limit .ensures
+returns c =
+    let l = c .before in
+    let t = l .before .before in
+    let a = t .before .before .args in
+    c .limit .ensures
+    ∙ ap (λ (F : Family). F .limit) (affine-family (a .code) (t .before .is-affine .ensures) (t .if1 .taken) (l .before .exponent .ensures) (l .lines .ensures))
+
+returns-2 : tie.Need-returns-2
+unfolding plane
+returns-2 c =
+    let a = c .before .before .before .args in
+    c .limit2 .ensures ∙ ap (λ (F : Family). F .limit) (plane-family (a .code) (c .before .before .is-affine .ensures) (c .before .if1 .left))
 
 pub limit-spec : {M : Type 1} → statement M
-limit-spec = tie.close (tie.spec (λ c κs. search needs) returns)
+limit-spec =
+    tie.close
+    (tie.spec (λ c κs. search needs) (λ c κs. search needs) (λ c κs. search needs) limit-requires returns (λ c κs. search needs) returns-2)

@@ -1,12 +1,29 @@
--- The plane's.
-use Rattle.fips197.proofs.Kit.{needs}
-use Rattle.sizes.specs.Sizes.{familyOf}
+-- The affine size's or the plane's (Laws).
+use Rattle.fips197.proofs.Kit.{ap, _∙_, length, needs}
+use Rattle.incidence.specs.Family.{Family}
+use Rattle.sizes.proofs.Laws.{affine-size, affine-family, plane-family}
 use Rattle.sizes.proofs.made_count.Statement.{statement}
 use Rattle.sizes.proofs.made_count.Tie as tie
 
+made-count-requires : tie.Need-made-count-requires
+made-count-requires c κs =
+    let t = c .before .before in
+    affine-size (t .before .before .args .code) (t .before .is-affine .ensures) (t .if1 .taken) (c .before .exponent .ensures) (c .lines .ensures)
+
 returns : tie.Need-returns
-unfolding familyOf
-returns c = c .made-count .ensures
+returns c =
+    let l = c .before in
+    let t = l .before .before in
+    let a = t .before .before .args in
+    c .made-count .ensures
+    ∙ ap (λ (F : Family). length (F .made (a .row))) (affine-family (a .code) (t .before .is-affine .ensures) (t .if1 .taken) (l .before .exponent .ensures) (l .lines .ensures))
+
+returns-2 : tie.Need-returns-2
+returns-2 c =
+    let a = c .before .before .before .args in
+    c .made-count2 .ensures ∙ ap (λ (F : Family). length (F .made (a .row))) (plane-family (a .code) (c .before .before .is-affine .ensures) (c .before .if1 .left))
 
 pub made-count-spec : {M : Type 1} → statement M
-made-count-spec = tie.close (tie.spec (λ c κs. search needs) returns)
+made-count-spec =
+    tie.close
+    (tie.spec (λ c κs. search needs) (λ c κs. search needs) (λ c κs. search needs) made-count-requires returns (λ c κs. search needs) returns-2)

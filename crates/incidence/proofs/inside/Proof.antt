@@ -1,7 +1,7 @@
 -- By its two tests.
 use Rattle.fips197.proofs.Kit.{le-leb, lt-leb}
-use Rattle.plane.proofs.walk.inside.Statement.{statement}
-use Rattle.plane.proofs.walk.inside.Tie as tie
+use Rattle.incidence.proofs.inside.Statement.{statement}
+use Rattle.incidence.proofs.inside.Tie as tie
 
 returns : tie.Need-returns
 returns c = rw (le-leb _ _ (c .if1 .taken))

@@ -1,8 +1,10 @@
 -- Sums of bits, and the laws of `parity`: of no members, of a sum, of two lists one behind the other, and of a parity of parities, which may be
--- taken in either order.
-use Rattle.fips197.proofs.Kit.{_≡_, refl, sym, ap, ap₂, _∙_, Bool, true, false, _&&_, List, [], _∷_, _++_, map, ℕ}
+-- taken in either order; and of the numbers that a test lists.
+use Rattle.fips197.proofs.Kit.{_≡_, refl, sym, ap, ap₂, _∙_, Bool, true, false, _&&_, List, [], _∷_, _++_, map, ℕ, zero, suc}
 use mathlib.Core.Bool.{xor}
+use Rattle.blocks.specs.Block.{if_then_else_}
+use Rattle.incidence.specs.Count.{listed}
 use Rattle.incidence.specs.Family.{parity}
 
 -- ---- bits
 
@@ -101,3 +103,22 @@ parity-swap f (u ∷ U) Q =
 pub parity-last : (p : ℕ → Bool) (Q : List ℕ) (k : ℕ) → parity p (Q ++ (k ∷ [])) ≡ xor (parity p Q) (p k)
 unfolding parity
 parity-last p Q k = parity-append p Q (k ∷ []) ∙ ap (xor (parity p Q)) (xor-turn (p k) false ∙ xor-none (p k))
+
+-- ---- over the numbers that pass another test
+
+pub parity-next : (p c : ℕ → Bool) (n : ℕ) → parity p (listed c (suc n)) ≡ xor (parity p (listed c n)) (c (suc n) && p (suc n))
+parity-next p c n = go (c (suc n))
+  where
+    go : (b : Bool) → parity p (if b then listed c n ++ (suc n ∷ []) else listed c n) ≡ xor (parity p (listed c n)) (b && p (suc n))
+    go true = parity-last p (listed c n) (suc n)
+    go false = sym (xor-turn (parity p (listed c n)) false ∙ xor-none (parity p (listed c n)))
+
+-- over those that pass one of two tests, and not both
+pub parity-either : (p c d : ℕ → Bool) (n : ℕ) → parity p (listed (λ a. xor (c a) (d a)) n) ≡ xor (parity p (listed c n)) (parity p (listed d n))
+unfolding parity
+parity-either p c d zero = sym (xor-none false)
+parity-either p c d (suc n) =
+    parity-next p (λ a. xor (c a) (d a)) n
+    ∙ ap₂ xor (parity-either p c d n) (and-xor (c (suc n)) (d (suc n)) (p (suc n)))
+    ∙ xor-four (parity p (listed c n)) (parity p (listed d n)) (c (suc n) && p (suc n)) (d (suc n) && p (suc n))
+    ∙ sym (ap₂ xor (parity-next p c n) (parity-next p d n))

@@ -1,0 +1,156 @@
+-- What the walks' steps rest on: a place of a course is a point, a number written behind others is the next of the list, and a row that
+-- there is not has no tag and is made of none.
+use Rattle.fips197.proofs.Kit.{_≡_, refl, sym, ap, _∙_, subst, Bool, true, false, List, [], _∷_, _++_, ℕ, zero, suc, _+_, _*_, _^_, _≤_, _<_, _⊎_, inl, inr, arith, add-one, eqb, length, getD, set, drop, length-append, List·getD-append, getD-at, eq-eqb, ne-eqb, xor-lt, bitXor}
+use Rattle.blocks.specs.Block.{if_then_else_}
+use Rattle.incidence.specs.Count.{inside}
+use Rattle.incidence.proofs.Booleans.{and-false-l}
+use Rattle.incidence.proofs.Counting.{last-or, inside-low, inside-high}
+use Rattle.affine.specs.declared.Line.{Line}
+use Rattle.affine.specs.declared.Course.{Course}
+use Rattle.affine.specs.Field.{offered, product, inverse}
+use Rattle.affine.specs.Lines.{points}
+use Rattle.affine.specs.Affine.{sized, rowCount, tagged, affine}
+use Rattle.affine.specs.Walk.{firsts, courseOf, placeOn, rowAt, rowsMet, itemCount}
+use Rattle.affine.proofs.FieldLaws.{Field, field}
+use Rattle.affine.proofs.Computing.{of-both, elements-few, sized-offered, sized-high}
+use Rattle.affine.proofs.Meeting.{spot-high}
+use Rattle.affine.proofs.Listings.{firsts-length}
+
+-- ---- places
+
+module _ (s : ℕ) (here : offered s ≡ true) where
+  F : Field s
+  F = field s here
+
+  pub product-low : (a b : ℕ) → product s a b < 2 ^ s
+  product-low = F .small
+
+  pub start-low : (L : Line) → courseOf s L .start < 2 ^ s
+  unfolding courseOf
+  start-low L = go (eqb (L .a) 0)
+    where
+      pick : Bool → Course
+      pick b =
+          if b then record { level = true; start = product s (inverse s (L .b)) (L .c); slope = 0 } else
+          record { level = false; start = product s (inverse s (L .a)) (L .c); slope = product s (inverse s (L .a)) (L .b) }
+
+      go : (b : Bool) → pick b .start < 2 ^ s
+      go true = product-low (inverse s (L .b)) (L .c)
+      go false = product-low (inverse s (L .a)) (L .c)
+
+  module _ (C : Course) (t : ℕ) (low : C .start < 2 ^ s) (few : t < 2 ^ s) where
+    pub level-place : C .start * 2 ^ s + t + 1 ≤ points s
+    level-place = omega (arith, spot-high s F t (C .start) few low)
+
+    pub sloping-place : t * 2 ^ s + bitXor (C .start) (product s (C .slope) t) + 1 ≤ points s
+    sloping-place = omega (arith, spot-high s F (bitXor (C .start) (product s (C .slope) t)) t (xor-lt s _ _ low (product-low (C .slope) t)) few)
+
+    pub place-few : (1 ≤ placeOn s C t) × (placeOn s C t ≤ points s)
+    unfolding placeOn
+    place-few = go (C .level)
+      where
+        go : (b : Bool) → (1 ≤ (if b then C .start * 2 ^ s + t + 1 else t * 2 ^ s + bitXor (C .start) (product s (C .slope) t) + 1))
+            × ((if b then C .start * 2 ^ s + t + 1 else t * 2 ^ s + bitXor (C .start) (product s (C .slope) t) + 1) ≤ points s)
+        go true = (omega arith, level-place)
+        go false = (omega arith, sloping-place)
+
+pub points-few : (s : ℕ) → offered s ≡ true → points s ≤ 64
+unfolding points
+points-few = of-both (λ s. 2 ^ s * 2 ^ s ≤ 64) (omega arith) (omega arith)
+
+pub rows-before : (s : ℕ) → offered s ≡ true → (t : ℕ) → t < 2 ^ s → t * 2 ^ s ≤ 64
+rows-before s here t few = omega (arith, spot-high s (F s here) 0 t (omega arith) few, points-few s here)
+
+-- ---- lists written from the front
+
+set-next : (l o : List ℕ) (x : ℕ) → length l < length o → set (l ++ drop (length l) o) (length l) x ≡ (l ++ (x ∷ [])) ++ drop (suc (length l)) o
+set-next [] [] x h = absurd (omega arith)
+set-next [] (y ∷ o) x h = refl
+set-next (a ∷ l) [] x h = absurd (omega arith)
+set-next (a ∷ l) (y ∷ o) x h = ap (λ (z : List ℕ). a ∷ z) (set-next l o x (omega arith))
+
+pub firsts-at : (f : ℕ → ℕ) (n k : ℕ) → k < n → getD (firsts f n) k 0 ≡ f k
+unfolding firsts
+firsts-at f zero k h = absurd (omega arith)
+firsts-at f (suc n) k h = go (firsts-at f n k) (last-or (suc k) n h)
+  where
+    go : (k < n → getD (firsts f n) k 0 ≡ f k) → (suc k ≡ suc n) ⊎ (suc k ≤ n) → getD (firsts f n ++ (f n ∷ [])) k 0 ≡ f k
+    go rest (inr w) = List·getD-append (firsts f n) (f n ∷ []) 0 k (omega (arith, firsts-length f n)) ∙ rest w
+    go rest (inl e) = let z : n ≡ k = omega arith in getD-at (firsts f n) (f n) [] 0 k (firsts-length f n ∙ z) ∙ ap f z
+
+-- the rows met at the next place
+module _ (s l : ℕ) (C : Course) where
+  abbrev pub Met : ℕ → List ℕ → List ℕ → ℕ → Type 0
+  Met t o out n = (n ≡ length (rowsMet s l C t)) × (out ≡ rowsMet s l C t ++ drop (length (rowsMet s l C t)) o) × (length (rowsMet s l C t) ≤ t)
+
+  pub met-none : (t : ℕ) (o out : List ℕ) (n i : ℕ) → i ≡ rowAt s l (placeOn s C t) → i ≡ 0 → Met t o out n → Met (t + 1) o out n
+  unfolding rowsMet
+  met-none t o out n i e z m =
+      rw (add-one t, eq-eqb (rowAt s l (placeOn s C t)) 0 (sym e ∙ z)) (m .0, m .1, omega (arith, m .2))
+
+  pub met-one : (t : ℕ) (o out : List ℕ) (n i : ℕ) → i ≡ rowAt s l (placeOn s C t) → (i ≡ 0 → ⊥) → length (rowsMet s l C t) < length o
+      → Met t o out n → Met (t + 1) o (set out n i) (n + 1)
+  unfolding rowsMet
+  met-one t o out n i e ne few m =
+      rw (add-one t, ne-eqb (rowAt s l (placeOn s C t)) 0 (λ z. ne (e ∙ z)))
+      (omega (arith, m .0, longer), written, omega (arith, m .2, longer))
+    where
+      list : List ℕ
+      list = rowsMet s l C t
+
+      longer : length (list ++ (rowAt s l (placeOn s C t) ∷ [])) ≡ length list + 1
+      longer = length-append list (rowAt s l (placeOn s C t) ∷ [])
+
+      written : set out n i ≡ (list ++ (rowAt s l (placeOn s C t) ∷ [])) ++ drop (length (list ++ (rowAt s l (placeOn s C t) ∷ []))) o
+      written =
+          ap (λ (z : List ℕ). set z n i) (m .1)
+          ∙ ap (λ (k : ℕ). set (list ++ drop (length list) o) k i) (m .0)
+          ∙ set-next list o i few
+          ∙ ap (λ (x : ℕ). (list ++ (x ∷ [])) ++ drop (suc (length list)) o) e
+          ∙ ap (λ (k : ℕ). (list ++ (rowAt s l (placeOn s C t) ∷ [])) ++ drop k o) (sym (longer ∙ add-one (length list)))
+
+-- ---- numbers of cards
+
+pub count-few : (s l p : ℕ) → sized s l ≡ true → itemCount s l p ≤ 9
+unfolding itemCount
+count-few s l p size = go (eqb p 1)
+  where
+    go : (b : Bool) → (if b then l else 2 ^ s + 1) ≤ 9
+    go true = omega (arith, sized-high s l size, elements-few s (sized-offered s l size) .1)
+    go false = omega (arith, elements-few s (sized-offered s l size) .1)
+
+-- ---- no such row
+
+module _ (s l i : ℕ) (out : inside (rowCount s l) i ≡ false) where
+  none : tagged s l i ≡ false
+  unfolding tagged
+  none = and-false-l (inside (rowCount s l) i) _ out
+
+  pub tag-out : affine s l .tagOfRow i ≡ 0
+  unfolding affine
+  tag-out = rw none
+
+  pub made-out : affine s l .made i ≡ []
+  unfolding affine
+  made-out = rw out
+
+-- ---- the code's tests
+
+pub inside-of : {m n : ℕ} {r b : Bool} (i : ℕ) → m ≡ n → r ≡ inside m i → r ≡ b → inside n i ≡ b
+inside-of i e f g = ap (λ (x : ℕ). inside x i) (sym e) ∙ sym f ∙ g
+
+-- a row that is made of others is one
+pub made-somewhere : (s l i : ℕ) → 0 < length (affine s l .made i) → (1 ≤ i) × (i ≤ rowCount s l)
+made-somewhere s l i h = go (inside (rowCount s l) i) refl
+  where
+    go : (b : Bool) → inside (rowCount s l) i ≡ b → (1 ≤ i) × (i ≤ rowCount s l)
+    go true e = (inside-low (rowCount s l) i e, inside-high (rowCount s l) i e)
+    go false e = absurd (omega (arith, ap length (made-out s l i e)))
+
+-- what a walk leaves in a buffer, by another name of the list or for none
+pub written-as : (o : List ℕ) {l w out : List ℕ} {n : ℕ} → w ≡ l → (out ≡ w ++ drop (length w) o) × (n ≡ length w)
+    → (out ≡ l ++ drop (length l) o) × (n ≡ length l)
+written-as o {l} {w} {out} {n} e h = subst (λ (x : List ℕ). (out ≡ x ++ drop (length x) o) × (n ≡ length x)) e h
+
+pub written-none : (o : List ℕ) {l : List ℕ} → l ≡ [] → (o ≡ l ++ drop (length l) o) × (0 ≡ length l)
+written-none o e = written-as o (sym e) (refl, refl)

@@ -1,0 +1,234 @@
+-- The tags of the affine family: they stand at the rows of which elimination leaves something, in row order, and every other row is the XOR
+-- of the earlier rows that it found. It holds for all s and l.
+use Rattle.fips197.proofs.Kit.{_≡_, refl, sym, ap, _∙_, Bool, true, false, not, List, [], _∷_, _++_, ℕ, zero, suc, _-_, _≤_, _<_, _↔_, _⊎_, inl, inr, arith, eqb, ltb, ltb-true, ltb-false, eqb-true, eq-eqb, ne-eqb, getD, not-true}
+use Rattle.blocks.specs.Block.{if_then_else_}
+use Rattle.incidence.specs.Count.{indicator, countUpTo, listed, inside}
+use Rattle.incidence.specs.Family.{Earlier, parity}
+use Rattle.incidence.proofs.Booleans.{and-right, and-both, and-false-r, not-both}
+use Rattle.incidence.proofs.Counting.{last-or, inside-yes, count-before}
+use Rattle.incidence.proofs.Listing.{Member, listed-at, listed-rank}
+use Rattle.affine.specs.Lines.{holds, cards, lineOf, pointOf}
+use Rattle.affine.specs.Elimination.{has, nothing}
+use Rattle.affine.specs.Affine.{rowCount, cardsAt, eliminated, remainder, tagged, affine, SumOfEarlier, TagsByRule}
+use Rattle.affine.proofs.Sets.{has-set}
+use Rattle.affine.proofs.Eliminating.{dependent, independent}
+
+-- ---- numbers that pass, and their ranks
+
+module _ (p : ℕ → Bool) (v : ℕ) where
+  -- a number that passes is counted behind those before it
+  count-here : (i : ℕ) → 1 ≤ i → p i ≡ true → countUpTo p i ≡ suc (countUpTo p (i - 1))
+  count-here zero l t = absurd (omega arith)
+  count-here (suc i) l t = let e : suc i - 1 ≡ i = omega arith in omega (arith, ap indicator t, ap (countUpTo p) e)
+
+  -- the k-th that passes
+  nth : (k : ℕ) → 1 ≤ k → k ≤ countUpTo p v → Member p v (k - 1) (getD (listed p v) (k - 1) 0)
+  nth k l u = listed-at p v (k - 1) (omega arith)
+
+  nth-rank : (k : ℕ) → 1 ≤ k → k ≤ countUpTo p v → countUpTo p (getD (listed p v) (k - 1) 0) ≡ k
+  nth-rank k l u = omega (arith, count-here _ (nth k l u .low) (nth k l u .passes), nth k l u .rank)
+
+  rank-nth : (i : ℕ) → 1 ≤ i → i ≤ v → p i ≡ true → getD (listed p v) (countUpTo p i - 1) 0 ≡ i
+  rank-nth i l u t =
+      let e : countUpTo p i - 1 ≡ countUpTo p (i - 1) = omega (arith, count-here i l t) in
+      ap (λ (x : ℕ). getD (listed p v) x 0) e ∙ listed-rank p v i l u t
+
+  rank-high : (i : ℕ) → 1 ≤ i → i ≤ v → p i ≡ true → countUpTo p i ≤ countUpTo p v
+  rank-high i l u t = omega (arith, count-here i l t, count-before p v i l u t)
+
+-- more numbers have no fewer that pass
+count-up : (p : ℕ → Bool) (a b : ℕ) → a ≤ b → countUpTo p a ≤ countUpTo p b
+count-up p a zero h = let e : a ≡ 0 = omega arith in omega (arith, ap (countUpTo p) e)
+count-up p a (suc b) h = go (λ w. count-up p a b w) (last-or a b h)
+  where
+    go : (a ≤ b → countUpTo p a ≤ countUpTo p b) → (a ≡ suc b) ⊎ (a ≤ b) → countUpTo p a ≤ countUpTo p (suc b)
+    go rest (inl e) = omega (arith, ap (countUpTo p) e)
+    go rest (inr w) = omega (arith, rest w)
+
+-- the numbers listed are earlier
+earlier-last : (i a : ℕ) (l : List ℕ) → 1 ≤ a → a < i → Earlier i l → Earlier i (l ++ (a ∷ []))
+earlier-last i a [] x y w = (x, y, tt)
+earlier-last i a (b ∷ l) x y w = (w .0, w .1, earlier-last i a l x y (w .2))
+
+listed-earlier : (c : ℕ → Bool) (n i : ℕ) → n < i → Earlier i (listed c n)
+listed-earlier c zero i h = tt
+listed-earlier c (suc n) i h = go (listed-earlier c n i (omega arith)) (c (suc n))
+  where
+    go : Earlier i (listed c n) → (b : Bool) → Earlier i (if b then listed c n ++ (suc n ∷ []) else listed c n)
+    go w true = earlier-last i (suc n) (listed c n) (omega arith) h w
+    go w false = w
+
+parity-same : (i : ℕ) (p q : ℕ → Bool) (l : List ℕ) → Earlier i l → ((a : ℕ) → 1 ≤ a → a < i → p a ≡ q a) → parity p l ≡ parity q l
+unfolding parity
+parity-same i p q [] w h = refl
+parity-same i p q (a ∷ l) w h = rw (h a (w .0) (w .1), parity-same i p q l (w .2) h)
+
+-- ---- the family's tags
+
+module _ (s l : ℕ) where
+  v : ℕ
+  v = rowCount s l
+
+  m : ℕ
+  m = cards s l
+
+  row : ℕ → ℕ
+  row i = cardsAt s l (pointOf s l i)
+
+  t : ℕ → Bool
+  t = tagged s l
+
+  -- what a row holds
+  on-row : (i j : ℕ) → 1 ≤ i → i ≤ rowCount s l → 1 ≤ j → j ≤ cards s l → affine s l .on i j ≡ has j (row i)
+  unfolding affine cardsAt row
+  on-row i j li ui lj uj =
+      rw (inside-yes (rowCount s l) i li ui, inside-yes (cards s l) j lj uj) (sym (has-set (λ j. holds s (lineOf s l j) (pointOf s l i)) (cards s l) j lj uj))
+
+  module _ (i : ℕ) (li : 1 ≤ i) (ui : i ≤ rowCount s l) where
+    -- the XOR of earlier rows, by what the family holds and by the sets
+    same-parity : (j : ℕ) → 1 ≤ j → j ≤ cards s l → (Q : List ℕ) → Earlier i Q
+        → parity (λ a. affine s l .on a j) Q ≡ parity (λ a. has j (row a)) Q
+    same-parity j lj uj Q e = parity-same i _ _ Q e (λ a x y. on-row a j x (omega arith) lj uj)
+
+    -- something is left of a tagged row, and of no other
+    left-some : tagged s l i ≡ true → remainder s l i .last ≡ 0 → ⊥
+    unfolding tagged
+    left-some h e = not-both (eqb (remainder s l i .last) 0) (eq-eqb _ 0 e) (not-true _ (and-right (inside (rowCount s l) i) _ h))
+
+    left-none : tagged s l i ≡ false → remainder s l i .last ≡ 0
+    unfolding tagged
+    left-none h = go (eqb (remainder s l i .last) 0) refl
+      where
+        go : (b : Bool) → eqb (remainder s l i .last) 0 ≡ b → remainder s l i .last ≡ 0
+        go true e = eqb-true _ 0 e
+        go false e = absurd (not-both _ (and-both (inside-yes (rowCount s l) i li ui) (ap not e)) h)
+
+    -- a row is tagged where something is left of it
+    pub tagged-yes : (remainder s l i .last ≡ 0 → ⊥) → tagged s l i ≡ true
+    unfolding tagged
+    tagged-yes h = and-both (inside-yes (rowCount s l) i li ui) (ap not (ne-eqb _ 0 h))
+
+    pub tagged-no : remainder s l i .last ≡ 0 → tagged s l i ≡ false
+    unfolding tagged
+    tagged-no h = and-false-r (inside (rowCount s l) i) _ (ap not (eq-eqb _ 0 h))
+
+    -- the rows that it is made of
+    pub made-is : tagged s l i ≡ false → affine s l .made i ≡ listed (λ a. has a (remainder s l i .left .rows)) (i - 1)
+    unfolding affine
+    made-is h = rw (h, inside-yes (rowCount s l) i li ui)
+
+    pub made-none : tagged s l i ≡ true → affine s l .made i ≡ []
+    unfolding affine
+    made-none h = rw (h, inside-yes (rowCount s l) i li ui)
+
+    pub made-earlier : tagged s l i ≡ false → Earlier i (affine s l .made i)
+    made-earlier h = rw (made-is h) (listed-earlier (λ a. has a (remainder s l i .left .rows)) (i - 1) i (omega arith))
+
+    pub made-adds-up : tagged s l i ≡ false → (j : ℕ) → 1 ≤ j → j ≤ cards s l → affine s l .on i j ≡ parity (λ a. affine s l .on a j) (affine s l .made i)
+    unfolding remainder eliminated row
+    made-adds-up h j lj uj =
+        on-row i j li ui lj uj
+        ∙ dependent (cards s l) row (rowCount s l) i li ui nothing (left-none h) j lj uj
+        ∙ ap (parity (λ a. has j (row a))) (sym (made-is h))
+        ∙ sym (same-parity j lj uj (affine s l .made i) (made-earlier h))
+
+    tagged-free : tagged s l i ≡ true → SumOfEarlier (affine s l) i → ⊥
+    unfolding remainder eliminated row affine
+    tagged-free h sum =
+        independent (cards s l) row (rowCount s l) i li ui nothing (left-some h) (sum .earlierRows) (sum .earlier)
+        (λ j lj uj. sym (on-row i j li ui lj uj) ∙ sum .adds-up j lj uj ∙ same-parity j lj uj (sum .earlierRows) (sum .earlier))
+
+    other-sum : tagged s l i ≡ false → SumOfEarlier (affine s l) i
+    unfolding affine
+    other-sum h = record { earlierRows = affine s l .made i; earlier = made-earlier h; adds-up = made-adds-up h }
+
+    pub tag-of : tagged s l i ≡ true → affine s l .tagOfRow i ≡ countUpTo (tagged s l) i
+    unfolding affine
+    tag-of h = rw h
+
+    pub tag-none : tagged s l i ≡ false → affine s l .tagOfRow i ≡ 0
+    unfolding affine
+    tag-none h = rw h
+
+    -- a row has a tag where it is tagged
+    pub has-tag : 1 ≤ affine s l .tagOfRow i → tagged s l i ≡ true
+    has-tag h = go (tagged s l i) refl
+      where
+        go : (b : Bool) → tagged s l i ≡ b → tagged s l i ≡ true
+        go true e = e
+        go false e = absurd (omega (arith, tag-none e))
+
+    pub no-tag : affine s l .tagOfRow i ≡ 0 → tagged s l i ≡ false
+    no-tag h = go (tagged s l i) refl
+      where
+        go : (b : Bool) → tagged s l i ≡ b → tagged s l i ≡ false
+        go true e = absurd (omega (arith, tag-of e, count-here (tagged s l) (rowCount s l) i li e))
+        go false e = e
+
+    tag-some : tagged s l i ≡ true → 1 ≤ affine s l .tagOfRow i
+    tag-some e = omega (arith, tag-of e, count-here (tagged s l) (rowCount s l) i li e)
+
+    pub tag-high : affine s l .tagOfRow i ≤ affine s l .tags
+    unfolding affine
+    tag-high = go (tagged s l i) refl
+      where
+        go : (b : Bool) → tagged s l i ≡ b → affine s l .tagOfRow i ≤ countUpTo (tagged s l) (rowCount s l)
+        go true e = omega (arith, tag-of e, rank-high (tagged s l) (rowCount s l) i li ui e)
+        go false e = omega (arith, tag-none e)
+
+    pub row-back : 1 ≤ affine s l .tagOfRow i → affine s l .rowOfTag (affine s l .tagOfRow i) ≡ i
+    unfolding affine
+    row-back h =
+        let e = has-tag h in
+        ap (λ (x : ℕ). getD (listed (tagged s l) (rowCount s l)) (x - 1) 0) (tag-of e) ∙ rank-nth (tagged s l) (rowCount s l) i li ui e
+
+    exact-at : (1 ≤ affine s l .tagOfRow i) ↔ (SumOfEarlier (affine s l) i → ⊥)
+    exact-at = (λ h. tagged-free (has-tag h), λ free. go free (tagged s l i) refl)
+      where
+        go : (SumOfEarlier (affine s l) i → ⊥) → (b : Bool) → tagged s l i ≡ b → 1 ≤ affine s l .tagOfRow i
+        go free true e = tag-some e
+        go free false e = absurd (free (other-sum e))
+
+  module _ (k : ℕ) (lk : 1 ≤ k) (uk : k ≤ affine s l .tags) where
+    tag-member : Member (tagged s l) (rowCount s l) (k - 1) (affine s l .rowOfTag k)
+    unfolding affine
+    tag-member = nth (tagged s l) (rowCount s l) k lk uk
+
+    pub row-low : 1 ≤ affine s l .rowOfTag k
+    row-low = tag-member .low
+
+    pub row-high : affine s l .rowOfTag k ≤ affine s l .rows
+    unfolding affine
+    row-high = tag-member .high
+
+    pub tag-back : affine s l .tagOfRow (affine s l .rowOfTag k) ≡ k
+    unfolding affine
+    tag-back =
+        tag-of (affine s l .rowOfTag k) row-low row-high (tag-member .passes) ∙ nth-rank (tagged s l) (rowCount s l) k lk uk
+
+  -- ranks rise with the numbers
+  rises : (k n : ℕ) → 1 ≤ k → k < n → n ≤ affine s l .tags → affine s l .rowOfTag k < affine s l .rowOfTag n
+  unfolding affine
+  rises k n lk h un = go (ltb (affine s l .rowOfTag k) (affine s l .rowOfTag n)) refl
+    where
+      a : Member (tagged s l) (rowCount s l) (k - 1) (affine s l .rowOfTag k)
+      a = tag-member k lk (omega arith)
+
+      b : Member (tagged s l) (rowCount s l) (n - 1) (affine s l .rowOfTag n)
+      b = tag-member n (omega arith) un
+
+      go : (c : Bool) → ltb (affine s l .rowOfTag k) (affine s l .rowOfTag n) ≡ c → affine s l .rowOfTag k < affine s l .rowOfTag n
+      go true e = ltb-true _ _ e
+      go false e =
+          absurd (omega (
+            arith,
+            a .rank,
+            b .rank,
+            ltb-false (affine s l .rowOfTag k) (affine s l .rowOfTag n) e,
+            count-up (tagged s l) (affine s l .rowOfTag n - 1) (affine s l .rowOfTag k - 1) (omega (arith, ltb-false (affine s l .rowOfTag k) (affine s l .rowOfTag n) e)),
+          ))
+
+  -- "Tags go to each row that isn't a sum of earlier rows", and to no other
+  pub tags-by-rule : TagsByRule (affine s l)
+  unfolding affine
+  tags-by-rule = record { exact = λ i li ui. exact-at i li ui; in-order = rises }

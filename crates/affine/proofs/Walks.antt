@@ -1,0 +1,315 @@
+-- The rows of a card are had along its line, and the cards of a row from its point: at the origin all chosen lines; elsewhere the one chosen
+-- line through it, and then the lines ax + by = 1 for (b, a) along the point's dual.
+use Rattle.fips197.proofs.Kit.{_≡_, refl, sym, ap, ap₂, _∙_, Bool, true, false, true≢false, [], _∷_, _++_, ℕ, zero, suc, _+_, _-_, _/_, _%_, _^_, _≤_, _<_, arith, zero-mod, eqb, leb, eqb-true, eqb-false, ne-eqb, leb-true, leb-false, le-leb, lt-leb, length, length-append, bitXor, xor-comm}
+use native.Mathlib.Nat.{zero-div}
+use Rattle.blocks.specs.Block.{if_then_else_}
+use Rattle.incidence.specs.Count.{countUpTo, listed, inside}
+use Rattle.incidence.specs.Family.{rowsOf, itemsOf}
+use Rattle.incidence.proofs.Booleans.{and-false-l, and-false-r}
+use Rattle.incidence.proofs.Counting.{Found, any-found, count-some, inside-low, inside-high}
+use Rattle.incidence.proofs.Listing.{Member, listed-at, listed-ext}
+use Rattle.affine.specs.declared.Line.{Line}
+use Rattle.affine.specs.declared.Course.{Course}
+use Rattle.affine.specs.Field.{product, inverse}
+use Rattle.affine.specs.Lines.{points, xOf, yOf, holds, chosen, crossing, cards, lineOf, isRow, pointOf}
+use Rattle.affine.specs.Affine.{sized, rowCount, affine}
+use Rattle.affine.specs.Walk.{firsts, courseOf, placeOn, rowAt, rowsMet, chosenAt, dual, itemCount, itemAt}
+use Rattle.affine.proofs.FieldLaws.{Field, xor-same, zero-left, zero-right}
+use Rattle.affine.proofs.Meeting.{of-chosen, of-crossing, x-low, y-low, same-point, held, Proper, chosen-proper, crossing-proper, chosen-through, crossing-one}
+use Rattle.affine.proofs.Disjunct as disjunct
+use Rattle.affine.proofs.Listings.{Among, Passing, listed-firsts, listed-places, none-listed, firsts-length}
+use Rattle.affine.proofs.Along.{along, divided}
+
+module _ (s l : ℕ) (size : sized s l ≡ true) where
+  -- the field of s
+  abbrev F : Field s
+  F = disjunct.F s l size
+
+  -- ---- the lines that are walked along
+
+  -- the line of a card
+  pub card-proper : (j : ℕ) → 1 ≤ j → j ≤ cards s l → Proper s F (lineOf s l j)
+  unfolding cards
+  card-proper j lj uj = go (leb j l) refl
+    where
+      go : (t : Bool) → leb j l ≡ t → Proper s F (lineOf s l j)
+      go true e = rw (of-chosen s l j e) (chosen-proper s F j lj)
+      go false e = let h : l < j = leb-false j l e in rw (of-crossing s l j e) (crossing-proper s F (j - l) (omega arith) (omega arith))
+
+  -- the points of a proper line, in rising order
+  line-along : (L : Line) → Proper s F L → Passing (holds s L) (points s) (placeOn s (courseOf s L)) (2 ^ s)
+  line-along L P = along s F L (P .low-a) (P .low-b) (P .low-c) (P .some)
+
+  -- ---- the rows of a card
+
+  -- a place at which a row is met adds it
+  met-next : (C : Course) (t : ℕ) → 1 ≤ placeOn s C t
+      → rowsMet s l C (suc t)
+      ≡ (if isRow s l (placeOn s C t) then rowsMet s l C t ++ (countUpTo (isRow s l) (placeOn s C t) ∷ []) else rowsMet s l C t)
+  unfolding rowsMet rowAt
+  met-next C t low = go (isRow s l (placeOn s C t)) refl
+    where
+      go : (b : Bool) → isRow s l (placeOn s C t) ≡ b → rowsMet s l C (suc t)
+          ≡ (if b then rowsMet s l C t ++ (countUpTo (isRow s l) (placeOn s C t) ∷ []) else rowsMet s l C t)
+      go true e =
+          let h : 0 < countUpTo (isRow s l) (placeOn s C t) = count-some (isRow s l) (placeOn s C t) (placeOn s C t) low (omega arith) e in
+          rw (e, ne-eqb (countUpTo (isRow s l) (placeOn s C t)) 0 (λ z. omega arith))
+      go false e = rw e
+
+  -- the rows of card j, along its line
+  pub rows-along : (j : ℕ) → 1 ≤ j → j ≤ cards s l → rowsOf (affine s l) j ≡ rowsMet s l (courseOf s (lineOf s l j)) (2 ^ s)
+  unfolding affine rowsOf rowCount pointOf rowsMet
+  rows-along j lj uj =
+      listed-ext (λ i. affine s l .on i j) (λ i. holds s (lineOf s l j) (pointOf s l i)) (rowCount s l) (λ i a b. disjunct.on-point s l size i j a b lj uj)
+      ∙ listed-places P (isRow s l) (rowsMet s l C) refl (λ t h. met-next C t (P .low t h))
+    where
+      C : Course
+      C = courseOf s (lineOf s l j)
+
+      P : Passing (holds s (lineOf s l j)) (points s) (placeOn s C) (2 ^ s)
+      P = line-along (lineOf s l j) (card-proper j lj uj)
+
+  -- ---- the cards of a point
+
+  -- the origin's coordinates
+  x-first : xOf s 1 ≡ 0
+  unfolding xOf
+  x-first = zero-mod (2 ^ s)
+
+  y-first : yOf s 1 ≡ 0
+  unfolding yOf
+  y-first = zero-div (2 ^ s)
+
+  -- a line holds the origin where c is 0
+  at-origin : (L : Line) → holds s L 1 ≡ eqb 0 (L .c)
+  unfolding holds
+  at-origin L = rw (x-first, y-first, zero-right s F (L .a), zero-right s F (L .b))
+
+  -- all chosen lines do, and no other card's
+  origin-items : Passing (λ j. holds s (lineOf s l j) 1) (cards s l) (λ k. k + 1) l
+  unfolding cards
+  origin-items = record {
+    low = λ t h. omega arith;
+    high = λ t h. omega arith;
+    rises = λ t u h k. omega arith;
+    passes = λ t h. rw (of-chosen s l (t + 1) (le-leb (t + 1) l (omega arith)), at-origin (chosen s (t + 1)), chosen-through s F (t + 1));
+    all = λ j lj uj e. go j lj e (leb j l) refl;
+  }
+    where
+      go : (j : ℕ) → 1 ≤ j → holds s (lineOf s l j) 1 ≡ true → (t : Bool) → leb j l ≡ t → Among (λ k. k + 1) l j
+      go j lj h true e = record { place = j - 1; below = omega (arith, leb-true j l e); same = omega arith }
+      go j lj h false e =
+          absurd (true≢false (sym h ∙ ap (λ (L : Line). holds s L 1) (of-crossing s l j e) ∙ at-origin (crossing s (j - l))
+          ∙ ap (eqb 0) (crossing-one s F (j - l))))
+
+  module _ (p : ℕ) (lp : 1 ≤ p) (up : p ≤ points s) (ne : p ≡ 1 → ⊥) where
+    -- a point other than the origin has coordinates other than 0 and 0
+    elsewhere : xOf s p ≡ 0 → yOf s p ≡ 0 → ⊥
+    elsewhere x y = ne (same-point s F p 1 lp (omega arith) (x ∙ sym x-first) (y ∙ sym y-first))
+
+    -- so its dual is a line
+    pub dual-proper : Proper s F (dual s p)
+    unfolding dual
+    dual-proper = record {
+      low-a = y-low s F p lp up;
+      low-b = x-low s F p;
+      low-c = F .some;
+      some = λ y x. elsewhere x y;
+    }
+
+    -- a line ax + by = 1 holds the point where the dual holds (b, a)
+    turned : (n : ℕ) → holds s (crossing s n) p ≡ holds s (dual s p) (suc n)
+    unfolding holds crossing dual xOf yOf
+    turned n =
+        let e : suc n - 1 ≡ n = omega arith in
+        rw e
+        (ap (λ (z : ℕ). eqb z 1)
+        (ap₂ bitXor (F .comm (n / 2 ^ s) (xOf s p)) (F .comm (n % 2 ^ s) (yOf s p))
+        ∙ xor-comm (product s (xOf s p) (n / 2 ^ s)) (product s (yOf s p) (n % 2 ^ s))))
+
+    -- the only chosen line that can hold it
+    chosen-only : (k : ℕ) → 1 ≤ k → k ≤ 2 ^ s + 1 → holds s (chosen s k) p ≡ true → k ≡ chosenAt s p
+    unfolding chosen chosenAt
+    chosen-only k lk uk h = go (leb k (2 ^ s)) refl
+      where
+        said : product s (chosen s k .a) (xOf s p) ≡ product s (chosen s k .b) (yOf s p)
+        said = xor-same _ _ (held s F (chosen s k) p h ∙ chosen-through s F k)
+
+        go : (t : Bool) → leb k (2 ^ s) ≡ t → k ≡ chosenAt s p
+        go true e =
+            let q : product s (xOf s p) (k - 1) ≡ yOf s p =
+            F .comm (xOf s p) (k - 1) ∙ rw e at said ∙ F .one (yOf s p) (y-low s F p lp up) in
+            let some : (xOf s p ≡ 0 → ⊥) = λ z. elsewhere z (sym q ∙ ap (λ (v : ℕ). product s v (k - 1)) z ∙ zero-left s F (k - 1)) in
+            let d : k - 1 ≡ product s (inverse s (xOf s p)) (yOf s p) =
+            divided s F (xOf s p) (k - 1) (yOf s p) (omega arith) (x-low s F p) (omega (arith, leb-true k (2 ^ s) e)) q in
+            rw (ne-eqb (xOf s p) 0 some) (omega arith)
+        go false e =
+            let z : xOf s p ≡ 0 =
+            sym (F .one (xOf s p) (x-low s F p)) ∙ rw e at said ∙ zero-left s F (yOf s p) in
+            rw z (omega (arith, leb-false k (2 ^ s) e))
+
+    -- the points of its dual
+    abbrev place : ℕ → ℕ
+    place = placeOn s (courseOf s (dual s p))
+
+    dual-along : Passing (holds s (dual s p)) (points s) place (2 ^ s)
+    dual-along = line-along (dual s p) dual-proper
+
+    -- the origin is none of them
+    above : (t : ℕ) → t < 2 ^ s → 1 < place t
+    unfolding dual
+    above t h =
+        let apart : (place t ≡ 1 → ⊥) = λ z. true≢false (sym (dual-along .passes t h) ∙ ap (holds s (dual s p)) z ∙ at-origin (dual s p)) in
+        omega (arith, dual-along .low t h)
+
+    -- the items by their places
+    item-first : itemAt s l p 0 ≡ chosenAt s p
+    unfolding itemAt
+    item-first = rw (ne-eqb p 1 ne)
+
+    item-next : (t : ℕ) → itemAt s l p (suc t) ≡ l + place t - 1
+    unfolding itemAt
+    item-next t =
+        let e : suc t - 1 ≡ t = omega arith in
+        rw (ne-eqb p 1 ne, ne-eqb (suc t) 0 (λ z. omega arith), e)
+
+    module _ (row : isRow s l p ≡ true) where
+      -- where it is a row, some chosen line goes through it, and that is the first item
+      through : Found (λ k. holds s (chosen s k) p) l
+      unfolding isRow
+      through = any-found (λ k. holds s (chosen s k) p) l row
+
+      first : itemAt s l p 0 ≡ through .at
+      first = item-first ∙ sym (chosen-only (through .at) (through .low) (omega (arith, through .high, disjunct.most s l size)) (through .passes))
+
+      -- so the items whose lines go through it are that one, and one for each point of the dual
+      items : Passing (λ j. holds s (lineOf s l j) p) (cards s l) (itemAt s l p) (2 ^ s + 1)
+      unfolding cards
+      items = record {
+        low = low;
+        high = high;
+        rises = rises;
+        passes = passes;
+        all = λ j lj uj e. all j lj uj e (leb j l) refl;
+      }
+        where
+          low : (t : ℕ) → t < 2 ^ s + 1 → 1 ≤ itemAt s l p t
+          low zero h = omega (arith, first, through .low)
+          low (suc t) h = omega (arith, item-next t, above t (omega arith))
+
+          high : (t : ℕ) → t < 2 ^ s + 1 → itemAt s l p t ≤ cards s l
+          high zero h = omega (arith, first, through .high)
+          high (suc t) h = omega (arith, item-next t, dual-along .high t (omega arith))
+
+          rises : (t u : ℕ) → t < u → u < 2 ^ s + 1 → itemAt s l p t < itemAt s l p u
+          rises t zero h k = absurd (omega arith)
+          rises zero (suc u) h k = omega (arith, first, through .high, item-next u, above u (omega arith))
+          rises (suc t) (suc u) h k = omega (arith, item-next t, item-next u, above t (omega arith), dual-along .rises t u (omega arith) (omega arith))
+
+          passes : (t : ℕ) → t < 2 ^ s + 1 → holds s (lineOf s l (itemAt s l p t)) p ≡ true
+          passes zero h = rw (first, of-chosen s l (through .at) (le-leb _ l (through .high))) (through .passes)
+          passes (suc t) h =
+              let a : 1 < place t = above t (omega arith) in
+              let c : l + place t - 1 - l ≡ place t - 1 = omega arith in
+              let d : suc (place t - 1) ≡ place t = omega arith in
+              rw (item-next t, of-crossing s l (l + place t - 1) (lt-leb _ l (omega arith)), c, turned (place t - 1), d) (dual-along .passes t (omega arith))
+
+          all : (j : ℕ) → 1 ≤ j → j ≤ cards s l → holds s (lineOf s l j) p ≡ true → (b : Bool) → leb j l ≡ b → Among (itemAt s l p) (2 ^ s + 1) j
+          all j lj uj h true e =
+              let u : j ≤ l = leb-true j l e in
+              record {
+                place = 0;
+                below = omega arith;
+                same = chosen-only j lj (omega (arith, disjunct.most s l size)) (rw (of-chosen s l j e) at h) ∙ sym item-first;
+              }
+          all j lj uj h false e =
+              let u : l < j = leb-false j l e in
+              let A : Among place (2 ^ s) (suc (j - l)) =
+              dual-along .all (suc (j - l)) (omega arith) (omega arith) (rw (of-crossing s l j e, turned (j - l)) at h) in
+              record { place = suc (A .place); below = omega (arith, A .below); same = omega (arith, item-next (A .place), A .same) }
+
+  -- the cards whose lines go through a point that is a row
+  pub items-through : (p : ℕ) → 1 ≤ p → p ≤ points s → isRow s l p ≡ true
+      → listed (λ j. holds s (lineOf s l j) p) (cards s l) ≡ firsts (itemAt s l p) (itemCount s l p)
+  unfolding itemAt itemCount
+  items-through p lp up row = go (eqb p 1) refl
+    where
+      go : (t : Bool) → eqb p 1 ≡ t → listed (λ j. holds s (lineOf s l j) p) (cards s l) ≡ firsts (itemAt s l p) (itemCount s l p)
+      go true e = rw (eqb-true p 1 e) (listed-firsts origin-items)
+      go false e = rw e (listed-firsts (items p lp up (eqb-false p 1 e) row))
+
+  -- ---- the cards of a row
+
+  -- the point of a row
+  module _ (i : ℕ) (li : 1 ≤ i) (ui : i ≤ rowCount s l) where
+    point : Member (isRow s l) (points s) (i - 1) (pointOf s l i)
+    unfolding pointOf rowCount
+    point = listed-at (isRow s l) (points s) (i - 1) (omega arith)
+
+    pub point-low : 1 ≤ pointOf s l i
+    point-low = point .low
+
+    pub point-high : pointOf s l i ≤ points s
+    point-high = point .high
+
+    pub point-row : isRow s l (pointOf s l i) ≡ true
+    point-row = point .passes
+
+    -- the cards of row i
+    pub items-along : itemsOf (affine s l) i ≡ firsts (itemAt s l (pointOf s l i)) (itemCount s l (pointOf s l i))
+    unfolding affine itemsOf
+    items-along =
+        listed-ext (affine s l .on i) (λ j. holds s (lineOf s l j) (pointOf s l i)) (cards s l) (λ j a b. disjunct.on-point s l size i j li ui a b)
+        ∙ items-through (pointOf s l i) point-low point-high point-row
+
+  -- ---- a number out of range, and how many there are
+
+  -- a number out of range has none
+  pub rows-out : (j : ℕ) → inside (cards s l) j ≡ false → rowsOf (affine s l) j ≡ []
+  unfolding affine rowsOf
+  rows-out j e =
+      none-listed (λ i. affine s l .on i j) (rowCount s l)
+      (λ i. and-false-l _ (holds s (lineOf s l j) (pointOf s l i)) (and-false-r (inside (rowCount s l) i) _ e))
+
+  pub items-out : (i : ℕ) → inside (rowCount s l) i ≡ false → itemsOf (affine s l) i ≡ []
+  unfolding affine itemsOf
+  items-out i e =
+      none-listed (affine s l .on i) (cards s l)
+      (λ j. and-false-l _ (holds s (lineOf s l j) (pointOf s l i)) (and-false-l _ (inside (cards s l) j) e))
+
+  -- at most one row a place
+  met-few : (C : Course) (n : ℕ) → length (rowsMet s l C n) ≤ n
+  unfolding rowsMet
+  met-few C zero = omega arith
+  met-few C (suc n) = go (met-few C n) (eqb (rowAt s l (placeOn s C n)) 0)
+    where
+      go : length (rowsMet s l C n) ≤ n → (b : Bool)
+          → length (if b then rowsMet s l C n else rowsMet s l C n ++ (rowAt s l (placeOn s C n) ∷ [])) ≤ suc n
+      go ih true = omega arith
+      go ih false = omega (arith, length-append (rowsMet s l C n) (rowAt s l (placeOn s C n) ∷ []))
+
+  -- so a card is on at most 2^s rows
+  pub rows-few : (j : ℕ) → length (rowsOf (affine s l) j) ≤ 2 ^ s
+  rows-few j = go (inside (cards s l) j) refl
+    where
+      go : (b : Bool) → inside (cards s l) j ≡ b → length (rowsOf (affine s l) j) ≤ 2 ^ s
+      go true e = rw (rows-along j (inside-low _ j e) (inside-high _ j e)) (met-few (courseOf s (lineOf s l j)) (2 ^ s))
+      go false e = rw (rows-out j e) (omega arith)
+
+  -- a row has at most 2^s + 1 cards
+  count-few : (p : ℕ) → itemCount s l p ≤ 2 ^ s + 1
+  unfolding itemCount
+  count-few p = go (eqb p 1)
+    where
+      go : (b : Bool) → (if b then l else 2 ^ s + 1) ≤ 2 ^ s + 1
+      go true = disjunct.most s l size
+      go false = omega arith
+
+  pub items-few : (i : ℕ) → length (itemsOf (affine s l) i) ≤ 2 ^ s + 1
+  items-few i = go (inside (rowCount s l) i) refl
+    where
+      go : (b : Bool) → inside (rowCount s l) i ≡ b → length (itemsOf (affine s l) i) ≤ 2 ^ s + 1
+      go true e =
+          rw (items-along i (inside-low _ i e) (inside-high _ i e), firsts-length (itemAt s l (pointOf s l i)) (itemCount s l (pointOf s l i)))
+          (count-few (pointOf s l i))
+      go false e = rw (items-out i e) (omega arith)

@@ -1,0 +1,29 @@
+-- An entry of the row's record, or nothing where there is no such row (Steps).
+use Rattle.fips197.proofs.Kit.{sym, ap, arith, length, needs}
+use Rattle.incidence.proofs.Counting.{inside-low, inside-high}
+use Rattle.affine.specs.Affine.{affine}
+use Rattle.affine.specs.Walk.{rowRecord}
+use Rattle.affine.proofs.Steps.{made-out, inside-of}
+use Rattle.affine.proofs.walk.made_count.Statement.{statement}
+use Rattle.affine.proofs.walk.made_count.Tie as tie
+
+record-at-requires : tie.Need-record-at-requires
+unfolding affine rowRecord
+record-at-requires c κs =
+    let d = c .before .before in
+    let i = d .before .args .i in
+    let w = inside-of i (d .rows .ensures) (c .before .inside .ensures) (c .if1 .taken) in
+    (d .before .pre, (inside-low _ i w, inside-high _ i w, omega arith))
+
+returns : tie.Need-returns
+unfolding rowRecord
+returns c = c .record-at .ensures
+
+returns-2 : tie.Need-returns-2
+unfolding affine
+returns-2 c =
+    let d = c .before .before in
+    sym (ap length (made-out (d .before .args .s) (d .before .args .l) (d .before .args .i) (inside-of (d .before .args .i) (d .rows .ensures) (c .before .inside .ensures) (c .if1 .left))))
+
+pub made-count-spec : {M : Type 1} → statement M
+made-count-spec = tie.close (tie.spec (λ c κs. search needs) (λ c κs. search needs) record-at-requires returns returns-2)
