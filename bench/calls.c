@@ -1,8 +1,9 @@
-/* Tag, Verify, Report and Replace, measured in one run, as three tables.
+/* Tag, Verify, Report and Replace, measured in one run, on planes and on affine sizes, as tables.
  *
  * Speed: each time as a ratio to (a) one CMAC of the same bytes by this library's cipher, the source paper's own measure, (b) the second
  * implementation of tests/host, the same call, (c) one CMAC of the same bytes by libtomcrypt's portable C. Growth: how the time goes with the
- * number of cards. Each time is the best of many, and the run fails where the two implementations differ. Stack: the bytes that a call uses. */
+ * number of cards. Each time is the best of many, and the run fails where the two implementations differ. Stack: the bytes that a call uses,
+ * at the largest plane and the largest affine size. */
 #include "../include/gtm.h"
 #include "../tests/host/second.h"
 
@@ -19,7 +20,8 @@ enum { ROUNDS = 60, FEW = 5 };
 
 /* A shelf, the same with some of its cards changed, and the shelf's sheet. */
 struct setting {
-    unsigned size, cards;
+    const struct family *family;
+    unsigned cards;
     size_t card_len, shelf_len, sheet_len;
     uint8_t shelf[65536], altered[65536], sheet[GTM_SHEET_MAX];
 };
@@ -37,10 +39,10 @@ static void need(int ok, const char *what)
 }
 
 /* At most so many cards of one length, as many as fit, and the same with the first of them changed. */
-static void lay_out(struct setting *s, unsigned size, unsigned cards, size_t len, unsigned changed)
+static void lay_out(struct setting *s, const struct family *f, unsigned cards, size_t len, unsigned changed)
 {
     while (7 + cards * (2 + len) > sizeof s->shelf) cards--;
-    s->size = size;
+    s->family = f;
     s->cards = cards;
     s->card_len = len;
     memcpy(s->shelf, "TBS\0\1", 5);
@@ -53,7 +55,7 @@ static void lay_out(struct setting *s, unsigned size, unsigned cards, size_t len
         for (size_t k = 0; k < len; k++) s->shelf[s->shelf_len + 2 + k] = (uint8_t)rand();
         s->shelf_len += 2 + len;
     }
-    s->sheet_len = second_sheet_len(3, size);
+    s->sheet_len = second_sheet_len(3, f);
     memcpy(s->altered, s->shelf, s->shelf_len);
     for (unsigned j = 0; j < changed && j < cards; j++) s->altered[7 + j * (2 + len) + 2] ^= 1;
 }
@@ -67,8 +69,8 @@ static void their_cmac(void)
     need(omac_memory(rijndael, keys, 16, now->shelf, now->shelf_len, mac, &len) == CRYPT_OK, "libtomcrypt's cmac");
 }
 
-static void tag(void) { need(gtm_tag(keys, 48, now->size, now->shelf, now->shelf_len, now->sheet, now->sheet_len) == 0, "tag"); }
-static void tag_d(void) { need(gtm_tag(keys, 48, now->size, now->altered, now->shelf_len, other, now->sheet_len) == 0, "tag"); }
+static void tag(void) { need(gtm_tag(keys, 48, now->family->code, now->shelf, now->shelf_len, now->sheet, now->sheet_len) == 0, "tag"); }
+static void tag_d(void) { need(gtm_tag(keys, 48, now->family->code, now->altered, now->shelf_len, other, now->sheet_len) == 0, "tag"); }
 static void verify(void) { need(gtm_verify(keys, 48, now->shelf, now->shelf_len, now->sheet, now->sheet_len) == 256, "verify"); }
 static void verify_d(void) { need(gtm_verify(keys, 48, now->altered, now->shelf_len, now->sheet, now->sheet_len) == 0, "verify"); }
 static void report(void)
@@ -94,7 +96,7 @@ static void replace_d(void)
 
 static void second_tags(void)
 {
-    need(second_tag(keys, 48, now->size, now->shelf, now->shelf_len, now->sheet, now->sheet_len).number == 0, "second tag");
+    need(second_tag(keys, 48, now->family->code, now->shelf, now->shelf_len, now->sheet, now->sheet_len).number == 0, "second tag");
 }
 static void second_verifies(void) { need(second_verify(keys, 48, now->shelf, now->shelf_len, now->sheet, now->sheet_len).yes, "second verify"); }
 static void second_reports(void)
@@ -162,19 +164,25 @@ static void measure(int count, double least[][12])
             }
 }
 
-static void print_speed(void)
+static void print_size(const struct family *f)
 {
     static const size_t lengths[3] = {16, 232, 1024};
     double t[FEW][12];
+    for (int q = 0; q < 3; q++) {
+        lay_out(&settings[0], f, f->cards, lengths[q], f->limit);
+        measure(1, t);
+        for (int i = 0; i < 5; i++)
+            printf("| %u | %u | %zu | %s | %.2f | %.2f | %.2f |\n", f->code, settings[0].cards, lengths[q], calls[i].name, t[0][2 + 2 * i] / t[0][0],
+                   t[0][2 + 2 * i] / t[0][3 + 2 * i], t[0][2 + 2 * i] / t[0][1]);
+    }
+}
+
+/* The planes, then of either field the affine sizes with the lowest and the highest limit. */
+static void print_speed(void)
+{
+    static const unsigned codes[] = {1, 2, 3, 4, 35, 37, 51, 57};
     puts("| size | cards | bytes a card | call | to our CMAC | to the second implementation | to libtomcrypt's CMAC |\n|---|---|---|---|---|---|---|");
-    for (unsigned size = 1; size <= 4; size++)
-        for (int q = 0; q < 3; q++) {
-            lay_out(&settings[0], size, planes[size].cards, lengths[q], planes[size].limit);
-            measure(1, t);
-            for (int i = 0; i < 5; i++)
-                printf("| %u | %u | %zu | %s | %.2f | %.2f | %.2f |\n", size, settings[0].cards, lengths[q], calls[i].name, t[0][2 + 2 * i] / t[0][0],
-                       t[0][2 + 2 * i] / t[0][3 + 2 * i], t[0][2 + 2 * i] / t[0][1]);
-        }
+    for (size_t i = 0; i < sizeof codes / sizeof codes[0]; i++) print_size(second_family(codes[i]));
 }
 
 /* ---- Growth with the number of cards ---- */
@@ -185,7 +193,7 @@ static void print_growth(void)
     static const int shown[4] = {2, 4, 6, 10}; /* Tag, Verify, Report with nothing changed, Replace */
     const int last = FEW - 1;
     double t[FEW][12];
-    for (int q = 0; q < FEW; q++) lay_out(&settings[q], 4, cards[q], 232, planes[4].limit);
+    for (int q = 0; q < FEW; q++) lay_out(&settings[q], second_family(4), cards[q], 232, second_family(4)->limit);
     measure(FEW, t);
     puts("\nGrowth, size 4, cards of 232 bytes. A call's time over one CMAC of the same bytes by our cipher, and its time a card over that with 273\n"
          "cards; for Replace, which is handed one card whatever their number, its time a call over that with 273.\n\n"
@@ -243,19 +251,20 @@ static size_t used(void (*f)(void))
     return a > b ? a : b;
 }
 
-static void print_stack(void)
+/* Returns the largest that one call uses. */
+static size_t print_stack(const struct family *f)
 {
     static const struct { const char *name; void (*intact)(void), (*altered)(void); } rows[4] = {
         {"Tag", tag, tag_d}, {"Verify", verify, verify_d}, {"Report", report, report_d}, {"Replace", replace, replace_d}};
     size_t largest = 0;
     for (int q = 0; q < 2; q++) {
         now = &settings[q];
-        lay_out(now, 4, planes[4].cards, 238, q == 0 ? planes[4].limit : planes[4].cards);
+        lay_out(now, f, f->cards, 238, q == 0 ? f->limit : f->cards);
         tag();
     }
-    printf("\nStack, bytes, size 4, a shelf of %zu. From where the bench calls down to the deepest byte written: the arguments handed\n"
+    printf("\nStack, bytes, size %u, a shelf of %zu. From where the bench calls down to the deepest byte written: the arguments handed\n"
            "over there and a few words of the bench itself are included.\n\n"
-           "| call | intact | %u cards altered | all altered |\n|---|---|---|---|\n", now->shelf_len, planes[4].limit);
+           "| call | intact | %u cards altered | all altered |\n|---|---|---|---|\n", f->code, now->shelf_len, f->limit);
     for (int i = 0; i < 4; i++) {
         size_t bytes[3];
         for (int k = 0; k < 3; k++) {
@@ -265,7 +274,7 @@ static void print_stack(void)
         }
         printf("| %s | %zu | %zu | %zu |\n", rows[i].name, bytes[0], bytes[1], bytes[2]);
     }
-    printf("\nThe largest stack that one call uses: %zu bytes\n", largest);
+    return largest;
 }
 
 int main(void)
@@ -276,6 +285,7 @@ int main(void)
     for (size_t i = 0; i < sizeof keys; i++) keys[i] = (uint8_t)rand();
     print_speed();
     print_growth();
-    print_stack();
+    size_t plane = print_stack(second_family(4)), affine = print_stack(second_family(57));
+    printf("\nThe largest stack that one call uses: %zu bytes\n", plane > affine ? plane : affine);
     return 0;
 }

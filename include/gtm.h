@@ -24,14 +24,14 @@
  * Each returns one number. gtm_number() of it is 0 when the call did its work, else the number of a refusal:
  *
  *   1  keys not 48 bytes (card key, tag key and seal key, 16 each)                  all calls
- *   2  size not 1 to 4                                                              gtm_tag
+ *   2  size not 1 to 4, 35 to 37 or 51 to 57                                        gtm_tag
  *   3  shelf under 7 bytes (version 2: 11) or over 65,536, or wrong letters,
  *      or a version that is not 1 or 2                                              gtm_tag, gtm_verify, gtm_report
- *   4  count 0 or above the cards of the size                                       gtm_tag
+ *   4  count 0 or above the cards of the size, by the table below                   gtm_tag
  *   5  a card too long or running past the end, or bytes left over
  *      (place: the first such card, or count + 1)                                   gtm_tag, gtm_verify, gtm_report
- *   6  not a sheet: letters, a version that is not 1, 2 or 3, size, count, or
- *      another length than version and size ask for                                 gtm_verify, gtm_report, gtm_replace
+ *   6  not a sheet: letters, a version that is not 1, 2 or 3, a size as in 2,
+ *      a count as in 4, or another length than version and size ask for             gtm_verify, gtm_report, gtm_replace
  *   7  the buffer lent is shorter than the output: a sheet of version 3, a byte
  *      for each card, or a sheet as long as the one given                           gtm_tag, gtm_report, gtm_replace
  *   8  card number 0 or above the sheet's count                                     gtm_replace
@@ -44,11 +44,23 @@
  * same, then 7; gtm_replace 1 6 20 8 9 7. A refused call writes nothing. One that is done writes its output to the
  * front of the buffer, and the bytes behind stay.
  *
- *   size   cards up to   sheet, bytes (version 1)   altered cards named exactly, up to
- *   1      7             92     (88)                2
- *   2      21            188    (184)               4
- *   3      73            476    (472)               8
- *   4      273           1,340  (1,336)             16
+ *   size   cards up to   tags   sheet, bytes (version 1)   altered cards named exactly, up to
+ *   1      7             4      92     (88)                2
+ *   2      21            10     188    (184)               4
+ *   3      73            28     476    (472)               8
+ *   4      273           82     1,340  (1,336)             16
+ *
+ *   for fewer tags, where few altered cards are feared:
+ *   35     18            8      156    (152)               1
+ *   36     19            9      172    (168)               2
+ *   37     20            9      172    (168)               3
+ *   51     66            19     332    (328)               1
+ *   52     67            23     396    (392)               2
+ *   53     68            24     412    (408)               3
+ *   54     69            25     428    (424)               4
+ *   55     70            26     444    (440)               5
+ *   56     71            27     460    (456)               6
+ *   57     72            27     460    (456)               7
  */
 #ifndef GTM_H
 #define GTM_H

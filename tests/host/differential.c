@@ -2,12 +2,12 @@
  *
  *     differential [count [seed [case]]]
  *
- * The first cases are listed ones, about versions, heads and the room for a sheet, whose cards are random; the others
- * are random altogether. Every buffer handed over lies against a page that may not be touched, in front of it or behind
- * it. Compared are the result, every byte of the lent buffer, the bytes around it, and that no input was changed. What
- * the second implementation gives is held against the requirements too: a card replaced is the shelf tagged afresh, and
- * a report names the cards that demand 3 says. A case depends on the seed and its own number alone, so that a third
- * argument runs a single case again. */
+ * The first cases are listed ones, about versions, heads, the room for a sheet, size codes, counts and the number of
+ * changed cards, whose cards are random; the others are random altogether. Every buffer handed over lies against a page
+ * that may not be touched, in front of it or behind it. Compared are the result, every byte of the lent buffer, the
+ * bytes around it, and that no input was changed. What the second implementation gives is held against the requirements
+ * too: a card replaced is the shelf tagged afresh, and a report names the cards that demand 3 says. A case depends on
+ * the seed and its own number alone, so that a third argument runs a single case again. */
 #define _DEFAULT_SOURCE
 #include "gtm.h"
 #include "inputs.h"
@@ -130,12 +130,11 @@ static void change_layout(uint32_t number)
 
 static void damage_sheet(void)
 {
-    const struct plane *p = &planes[cards.size];
+    const struct family *f = cards.family, *other = any_family();
     size_t head = sheet_head();
     uint8_t *b = sheet.bytes, *tags = b + head, tag[16];
-    unsigned size = cards.size, count = cards.count, x = below(p->tags), y = below(p->tags), other = 1 + below(4);
-    const unsigned counts[] = {0, p->cards, p->cards + 1, count - 1, count + 1, count + 256, below(65536), 65535};
-    const unsigned codes[] = {0, 5, 255, other, 128 + size, below(256)};
+    unsigned count = cards.count, x = below(f->tags), y = below(f->tags);
+    const unsigned counts[] = {0, f->cards, f->cards + 1, count - 1, count + 1, count + 256, below(65536), 65535};
     const unsigned lengths[] = {0, 1, 7, 15, 16, 23, 24, 27, 28, 40, (unsigned)sheet.len - 1, (unsigned)sheet.len - 4, (unsigned)sheet.len - 16,
                                 below((unsigned)head + 5), below((unsigned)sheet.len)};
     const uint32_t numbers[] = {cards.number, another_number(cards.number), some_number()};
@@ -144,15 +143,15 @@ static void damage_sheet(void)
     case 0: flip(b, sheet.len); return;
     case 1: flip(b + sheet.len - 16, 16); return;
     case 2: fill(b + head, sheet.len - head); return;
-    case 3: flip(tags, 16 * p->tags); break;
-    case 4: fill(tags, 16 * p->tags); break;
+    case 3: flip(tags, 16 * f->tags); break;
+    case 4: fill(tags, 16 * f->tags); break;
     case 5:
         memcpy(tag, tags + 16 * x, 16);
         memmove(tags + 16 * x, tags + 16 * y, 16);
         memcpy(tags + 16 * y, tag, 16);
         break;
     case 6: b[below(5)] ^= (uint8_t)(1 + below(255)); break;
-    case 7: b[head - 3] = (uint8_t)codes[below(COUNT(codes))]; break;
+    case 7: b[head - 3] = (uint8_t)(one_in(4) ? other->code : near_code(f)); break;
     case 8: put_two(b + head - 2, counts[below(COUNT(counts))]); break;
     case 9: sheet.len = lengths[below(COUNT(lengths))]; break;
     case 10:
@@ -162,12 +161,12 @@ static void damage_sheet(void)
         break;
     case 11: /* a sheet of another size, of this shelf or of none */
         sheet.len = second_sheet_len(sheet_version, other);
-        if (second_tag_in(sheet_version, keys.bytes, 48, other, shelf.bytes, shelf.len, b, sheet.len).number != 0) {
+        if (second_tag_in(sheet_version, keys.bytes, 48, other->code, shelf.bytes, shelf.len, b, sheet.len).number != 0) {
             memcpy(b, "TBT", 3);
             put_two(b + 3, sheet_version);
             if (sheet_version != 1)
                 put_four(b + 5, cards.number);
-            b[head - 3] = (uint8_t)other;
+            b[head - 3] = (uint8_t)other->code;
             put_two(b + head - 2, count);
             fill(tags, sheet.len - head);
         }
@@ -221,16 +220,28 @@ static unsigned long shares[3];                             /* shelves tagged: n
 static unsigned long replaced[4][4];                        /* by the sheet's version: a card by a card, added, withdrawn, vacant by vacant */
 static unsigned long turned[4][4];                          /* and cards of reports: added, named of them; withdrawn, named of them */
 static unsigned long premises[4][2];                        /* and reports in which no row cancels, and in which one does */
+static unsigned long wrong_codes[SHEET_VERSIONS + 1][256];  /* refused: bytes that are no code, said to Tag, and by sheets of each version */
+static unsigned long recoded;                               /* done: the code of another size with as many tags */
 static unsigned long unseen[2];                             /* added and withdrawn under version 3 with a code of zero: no row shows them */
+
+/* What was seen of each size. The first four are the calls that were done. */
+enum { NO = 4, YES, AFRESH, CANCELS, NO_CARD, FULL, ONE_ABOVE, FAR_ABOVE, FAR_CODE, OF_SIZE };
+static const char *const of_size_names[OF_SIZE] = {"tagged", "verified", "reported", "replaced", "no", "yes", "replaced as tagged afresh",
+                                                   "a row cancels", "count 0", "full", "one card too many", "far too many", "code far above"};
+static unsigned long of_size[SIZES][OF_SIZE];
+
+/* Reports in which no row cancels, by size and by how many cards changed; the last number for more than one above the limit. */
+#define MOST_LIMIT 16
+static unsigned long changed[SIZES][MOST_LIMIT + 3];
+
+static unsigned long *of(const struct family *f)
+{
+    return of_size[f - families];
+}
 
 static uint64_t some_size_code(void)
 {
-    unsigned size = cards.size;
-    const uint64_t wrong[] = {0, 5, 255, 256, 256 + size, 65536 + size, (UINT64_C(1) << 32) + 1, (UINT64_C(1) << 32) + size,
-                              (UINT64_C(1) << 63) + size, UINT64_MAX, any()};
-    if (one_in(6))
-        return wrong[below(COUNT(wrong))];
-    return one_in(8) ? 1 + below(4) : size;
+    return one_in(6) ? near_code(cards.family) : one_in(8) ? any_family()->code : cards.family->code;
 }
 
 static uint64_t some_card_number(unsigned number)
@@ -317,9 +328,10 @@ static void check_replaced(unsigned number)
     shelf.len = write_shelf(&cards, shelf.bytes);
     if (shelf.len > 65536)
         return;
-    second_tag_in(sheet_version, keys.bytes, 48, cards.size, shelf.bytes, shelf.len, fresh, sizeof fresh);
+    second_tag_in(sheet_version, keys.bytes, 48, cards.family->code, shelf.bytes, shelf.len, fresh, sizeof fresh);
     if (memcmp(fresh, out.bytes, sheet.len) != 0)
         differs("replaced and tagged afresh", 0, 0);
+    of(cards.family)[AFRESH]++;
 }
 
 /* Which cards differ between the shelves tagged and reported, filled against vacant among the rest, and the XOR of their old and new codes. */
@@ -345,7 +357,7 @@ static int cancels(unsigned row)
     uint8_t sum[16] = {0};
     int holds = 0;
     for (unsigned j = 1; j <= cards.count; j++) {
-        if (!differ[j] || !second_on_row(cards.size, row, j))
+        if (!differ[j] || !cards.family->on[row][j])
             continue;
         holds = 1;
         for (int k = 0; k < 16; k++)
@@ -356,7 +368,7 @@ static int cancels(unsigned row)
 
 static int some_row_cancels(void)
 {
-    for (unsigned row = 1; row <= planes[cards.size].cards; row++)
+    for (unsigned row = 1; row <= cards.family->rows; row++)
         if (cancels(row))
             return 1;
     return 0;
@@ -380,7 +392,7 @@ static void count_turned(void)
  * changed card and gives the answer that goes with their number. */
 static void check_detection(struct result r)
 {
-    unsigned limit = planes[cards.size].limit, changes = 0, missed = 0, wrong = 0;
+    unsigned limit = cards.family->limit, changes = 0, missed = 0, wrong = 0;
     compare_cards();
     int premise = !some_row_cancels();
     for (unsigned j = 1; j <= cards.count; j++) {
@@ -395,24 +407,31 @@ static void check_detection(struct result r)
     if (premise && r.answer != (changes == 0 ? 0 : changes <= limit ? 1 : 2))
         differs("the answer where so many changed", (unsigned)r.answer, changes);
     premises[sheet_version][premise ? 0 : 1]++;
+    if (premise)
+        changed[cards.family - families][changes < limit + 2 ? changes : limit + 2]++;
+    else
+        of(cards.family)[CANCELS] += changes <= limit;
     count_turned();
 }
 
 /* ---- The listed cases ---- */
 
-enum about { SHELF_CUT, SHELF_LABEL, SHEET_CUT, SHEET_LABEL, SHEET_LENGTH, LENT, NUMBERS, NUMBERS_AND_SEAL, NUMBERS_AND_COUNT, NUMBERS_AND_ROOM };
+enum about { SHELF_CUT, SHELF_LABEL, SHEET_CUT, SHEET_LABEL, SHEET_LENGTH, LENT, TAG_CODE, SHEET_CODE, COUNTED, CHANGED, CANCELLED, HIDDEN,
+             NUMBERS, NUMBERS_AND_SEAL, NUMBERS_AND_COUNT, NUMBERS_AND_ROOM };
 
 /* A call on files of those versions, and what it is about. Sizes, numbers and cards that are not given are random. */
 struct plan {
     enum call call;
     unsigned shelf_version, sheet_version;
     enum about about;
-    unsigned value;      /* a length, or the version said; for SHEET_LENGTH and LENT how many bytes are too many, plus 100 */
-    unsigned size;       /* 0 for any */
-    uint32_t numbers[2]; /* of shelf and sheet */
+    uint64_t value;              /* a length, the version, code or count said, the number of changed cards, for HIDDEN whether it is withdrawn;
+                                    for SHEET_LENGTH and LENT how many bytes are too many, plus 100 */
+    const struct family *family; /* NULL for any */
+    unsigned tags;               /* for SHEET_CODE: for how many there is room; 0 for those of the family */
+    uint32_t numbers[2];         /* of shelf and sheet */
 };
 
-static struct plan plans[2000];
+static struct plan plans[5000];
 static size_t plan_count;
 
 static void list(struct plan plan)
@@ -450,6 +469,97 @@ static void list_numbers(uint32_t a, uint32_t b)
                     list((struct plan){(enum call)call, first, second, (enum about)about, .numbers = {a, b}});
 }
 
+/* The family whose code is the nearest to a number that is none. */
+static const struct family *nearest(unsigned code)
+{
+    for (unsigned away = 1;; away++)
+        for (const struct family *f = families; f < families + SIZES; f++)
+            if (f->code == code - away || f->code == code + away)
+                return f;
+}
+
+/* A byte that is no code, said to Tag and by a sheet of each version, laid out as one of the nearest size. */
+static void list_wrong_code(unsigned code)
+{
+    const struct family *f = nearest(code);
+    list((struct plan){TAG, 1 + code % 2, SHEET_VERSIONS, TAG_CODE, code, .family = f});
+    for (unsigned version = 1; version <= SHEET_VERSIONS; version++)
+        list((struct plan){(enum call)(VERIFY + (code + version) % 3), SHELF_VERSIONS, version, SHEET_CODE, code, .family = f});
+}
+
+/* 16s + l for an s that has no sizes, said by sheets as long as the affine family of s and l would need. */
+static void list_wrong_field(unsigned s)
+{
+    for (unsigned l = 3; l <= (1u << s) + 1; l++)
+        for (unsigned version = 1; version <= SHEET_VERSIONS; version++)
+            list((struct plan){(enum call)(VERIFY + (l + version) % 3), SHELF_VERSIONS, version, SHEET_CODE, 16 * s + l,
+                               .family = nearest(16 * s + l), .tags = second_affine_tags(s, l)});
+}
+
+/* Numbers above a byte, of which some end in the code; and the codes of other sizes with as many tags. */
+static void list_other_codes(const struct family *f)
+{
+    const uint64_t code = f->code;
+    const uint64_t far[] = {256 + code, 65536 + code, (UINT64_C(1) << 32) + code, (UINT64_C(1) << 63) + code, 0 - code, UINT64_MAX};
+    for (size_t i = 0; i < COUNT(far); i++)
+        list((struct plan){TAG, SHELF_VERSIONS, SHEET_VERSIONS, TAG_CODE, far[i], .family = f});
+    for (const struct family *other = families; other < families + SIZES; other++)
+        if (other != f && other->tags == f->tags)
+            list_calls((struct plan){.about = SHEET_CODE, .value = other->code, .family = f});
+}
+
+/* As many cards as there are places, none, one more and far more: in the shelf that is tagged, and in a shelf and its sheet. */
+static void list_counts(const struct family *f)
+{
+    const unsigned counts[] = {0, f->cards, f->cards + 1, f->cards + 256, 65535};
+    for (unsigned i = 0; i < COUNT(counts); i++) {
+        for (unsigned version = 1; version <= SHELF_VERSIONS; version++)
+            list((struct plan){TAG, version, SHEET_VERSIONS, COUNTED, counts[i], .family = f});
+        for (unsigned version = 1; version <= SHEET_VERSIONS; version++)
+            list((struct plan){(enum call)(VERIFY + (i + version) % 3), SHELF_VERSIONS, version, COUNTED, counts[i], .family = f});
+    }
+}
+
+/* Up to two cards more than the limit changed, or all; as many as the limit, so that a row cancels; and one that no row shows. */
+static void list_changed(const struct family *f, unsigned version)
+{
+    for (unsigned n = 0; n <= f->limit + 2; n++)
+        list((struct plan){REPORT, SHELF_VERSIONS, version, CHANGED, n, .family = f});
+    list((struct plan){REPORT, SHELF_VERSIONS, version, CHANGED, f->cards, .family = f});
+    list((struct plan){REPORT, SHELF_VERSIONS, version, CANCELLED, f->limit, .family = f});
+    for (unsigned n = 0; n < 2; n++) {
+        list((struct plan){VERIFY, SHELF_VERSIONS, version, CHANGED, n, .family = f});
+        list((struct plan){REPORT, SHELF_VERSIONS, version, HIDDEN, n, .family = f});
+    }
+}
+
+/* The room for a sheet. */
+static void list_lent(const struct family *f)
+{
+    for (unsigned more = 94; more <= 103; more++) {
+        for (unsigned version = 1; version <= SHELF_VERSIONS; version++)
+            list((struct plan){TAG, version, SHEET_VERSIONS, LENT, more, .family = f});
+        for (unsigned version = 1; version <= SHEET_VERSIONS; version++)
+            list((struct plan){REPLACE, SHELF_VERSIONS, version, LENT, more, .family = f});
+    }
+}
+
+static void list_sizes(void)
+{
+    for (unsigned code = 0; code < 256; code++)
+        if (second_family(code) == NULL)
+            list_wrong_code(code);
+    list_wrong_field(1);
+    list_wrong_field(4);
+    for (const struct family *f = families; f < families + SIZES; f++) {
+        list_lent(f);
+        list_other_codes(f);
+        list_counts(f);
+        for (unsigned version = 1; version <= SHEET_VERSIONS; version++)
+            list_changed(f, version);
+    }
+}
+
 static void list_all(void)
 {
     static const uint32_t pairs[][2] = {{0, 0}, {5, 5}, {0xffffffff, 0xffffffff}, {0, 1}, {1, 0}, {5, 0}, {0, 0xffffffff}, {0xffffffff, 0},
@@ -466,15 +576,9 @@ static void list_all(void)
     }
     for (size_t i = 0; i < COUNT(lengths); i++)
         list_calls((struct plan){.about = SHEET_LENGTH, .value = lengths[i]});
-    for (unsigned size = 1; size <= 4; size++)
-        for (unsigned more = 94; more <= 103; more++) {
-            for (unsigned version = 1; version <= SHELF_VERSIONS; version++)
-                list((struct plan){TAG, version, SHEET_VERSIONS, LENT, more, size, {0}});
-            for (unsigned version = 1; version <= SHEET_VERSIONS; version++)
-                list((struct plan){REPLACE, SHELF_VERSIONS, version, LENT, more, size, {0}});
-        }
     for (size_t i = 0; i < COUNT(pairs); i++)
         list_numbers(pairs[i][0], pairs[i][1]);
+    list_sizes();
 }
 
 /* ---- A case ---- */
@@ -504,8 +608,8 @@ static void lay_out(void)
 
 static void make_sheet(void)
 {
-    sheet.len = second_sheet_len(sheet_version, cards.size);
-    unsigned number = second_tag_in(sheet_version, keys.bytes, 48, cards.size, shelf.bytes, shelf.len, sheet.bytes, sheet.len).number;
+    sheet.len = second_sheet_len(sheet_version, cards.family);
+    unsigned number = second_tag_in(sheet_version, keys.bytes, 48, cards.family->code, shelf.bytes, shelf.len, sheet.bytes, sheet.len).number;
     if (number != 0)
         differs("making a sheet", 0, number);
 }
@@ -520,6 +624,71 @@ static void choose_card(struct chosen *c)
     memcpy(old_card.bytes, cards.card[c->number], old_card.len);
 }
 
+/* Another size code in the sheet, which has room for so many tags or for its own. */
+static void say_code(unsigned code, unsigned tags)
+{
+    sheet.bytes[sheet_head() - 3] = (uint8_t)code;
+    if (tags) {
+        fill(sheet.bytes + sheet_head(), 16 * tags);
+        sheet.len = sheet_head() + 16 * tags + 16;
+    }
+    reseal();
+}
+
+/* Another count: a shelf of as many cards, if there is room for them here, and a sheet that says it. Else a shelf that is tagged says it too. */
+static void say_count(enum call call, unsigned count)
+{
+    if (count <= MOST_CARDS + 1) {
+        while (cards.count < count)
+            fill_place(&cards, ++cards.count);
+        cards.count = count;
+        lay_out();
+    } else if (call == TAG) {
+        put_two(shelf.bytes + head_len(&cards) - 2, count);
+    }
+    put_two(sheet.bytes + sheet_head() - 2, count);
+    reseal();
+}
+
+/* Changes the two shelves round: the altered one is tagged. It may be too long for that. */
+static void turn_round(void)
+{
+    static struct draft altered;
+    size_t len = write_shelf(&cards, shelf.bytes);
+    if (len > 65536)
+        return;
+    altered = cards;
+    cards = tagged;
+    tagged = altered;
+    shelf.len = len;
+    make_sheet();
+}
+
+/* A card of code zero is added where there was none, or withdrawn. */
+static void turn_unseen(int withdrawn)
+{
+    unsigned number = 1 + below(cards.count);
+    cards.len[number] = 0;
+    lay_out();
+    make_sheet();
+    tagged = cards;
+    hide_card(&cards, keys.bytes, sheet_version, number);
+    if (withdrawn)
+        turn_round();
+    lay_out();
+}
+
+/* Changes cards behind the sheet. */
+static void change_behind(const struct plan *p)
+{
+    tagged = cards;
+    if (p->about == CHANGED)
+        change_cards(&cards, (unsigned)p->value);
+    else
+        cancel_row(&cards, keys.bytes, sheet_version, (unsigned)p->value);
+    lay_out();
+}
+
 /* What a listed case is about. */
 static void spoil(const struct plan *p, struct chosen *c)
 {
@@ -528,13 +697,13 @@ static void spoil(const struct plan *p, struct chosen *c)
         if (p->value < shelf.len)
             shelf.len = p->value;
         break;
-    case SHELF_LABEL: put_two(shelf.bytes + 3, p->value); break;
+    case SHELF_LABEL: put_two(shelf.bytes + 3, (unsigned)p->value); break;
     case SHEET_CUT:
         sheet.len = p->value;
         c->honest = 0;
         break;
     case SHEET_LABEL:
-        put_two(sheet.bytes + 3, p->value);
+        put_two(sheet.bytes + 3, (unsigned)p->value);
         reseal();
         c->honest = 0;
         break;
@@ -544,7 +713,22 @@ static void spoil(const struct plan *p, struct chosen *c)
         reseal();
         c->honest = 0;
         break;
-    case LENT: out.len = second_sheet_len(SHEET_VERSIONS, cards.size) + p->value - 100; break;
+    case LENT: out.len = second_sheet_len(SHEET_VERSIONS, cards.family) + p->value - 100; break;
+    case TAG_CODE: c->said = p->value; break;
+    case SHEET_CODE:
+        say_code((unsigned)p->value, p->tags);
+        c->honest = 0;
+        break;
+    case COUNTED: say_count(p->call, (unsigned)p->value); break;
+    case CHANGED:
+    case CANCELLED:
+        change_behind(p);
+        c->honest = 1;
+        break;
+    case HIDDEN:
+        turn_unseen(p->value != 0);
+        c->honest = 1;
+        break;
     default: /* the sheet is that of the second number */
         cards.version = p->shelf_version;
         cards.number = p->numbers[0];
@@ -562,8 +746,8 @@ static void spoil(const struct plan *p, struct chosen *c)
 static struct chosen listed_case(const struct plan *p)
 {
     struct chosen c = {.call = p->call};
-    cards.size = p->size ? p->size : 1 + below(4);
-    cards.count = 1 + below(planes[cards.size].cards);
+    cards.family = p->family ? p->family : any_family();
+    cards.count = p->about >= COUNTED && p->about < NUMBERS ? cards.family->cards : 1 + below(cards.family->cards);
     cards.version = p->shelf_version;
     cards.number = p->about >= NUMBERS ? p->numbers[1] : p->shelf_version != 1 && p->sheet_version != 1 ? some_number() : 0;
     if (cards.number != 0)
@@ -571,7 +755,7 @@ static struct chosen listed_case(const struct plan *p)
     sheet_version = p->sheet_version;
     make_cards(&cards, below(3));
     lay_out();
-    c.said = cards.size;
+    c.said = cards.family->code;
     if (c.call != TAG)
         make_sheet();
     if (c.call == REPLACE) {
@@ -579,7 +763,7 @@ static struct chosen listed_case(const struct plan *p)
         new_card.len = one_in(3) ? 0 : some_length(below(3));
         fill(new_card.bytes, new_card.len);
     }
-    out.len = c.call == VERIFY ? 0 : c.call == REPORT ? cards.count : second_sheet_len(sheet_version, cards.size);
+    out.len = c.call == VERIFY ? 0 : c.call == REPORT ? cards.count : second_sheet_len(sheet_version, cards.family);
     spoil(p, &c);
     fill(out.bytes, out.len);
     return c;
@@ -596,20 +780,6 @@ static void choose_replacement(struct chosen *c)
         some_card(&old_card);
         c->honest = 0;
     }
-}
-
-/* Changes the two shelves round: the altered one is tagged. It may be too long for that. */
-static void turn_round(void)
-{
-    static struct draft altered;
-    size_t len = write_shelf(&cards, shelf.bytes);
-    if (len > 65536)
-        return;
-    altered = cards;
-    cards = tagged;
-    tagged = altered;
-    shelf.len = len;
-    make_sheet();
 }
 
 /* Verify and Report: the shelf is altered behind its sheet; now and then it is another shelf, by its number and perhaps its count. Returns
@@ -662,7 +832,7 @@ static struct chosen random_case(void)
         c.honest = 0;
     }
     if (c.call != VERIFY)
-        lend_output(c.call == REPORT ? cards.count : second_sheet_len(c.call == TAG ? SHEET_VERSIONS : sheet_version, cards.size));
+        lend_output(c.call == REPORT ? cards.count : second_sheet_len(c.call == TAG ? SHEET_VERSIONS : sheet_version, cards.family));
     if (one_in(12)) {
         damage_keys();
         c.honest = 0;
@@ -729,6 +899,29 @@ static void count_places(const struct chosen *c, struct result r)
         replaced[sheet.bytes[4]][(old_card.len == 0) + 2 * (c->new_len == 0)]++;
 }
 
+/* Counts a call that was done by its size, the code told to Tag or in the sheet. */
+static void count_done(const struct chosen *c, struct result r)
+{
+    const struct family *f = second_family(c->call == TAG ? c->said : sheet.bytes[sheet.bytes[4] == 1 ? 5 : 9]);
+    of(f)[c->call]++;
+    if (c->call == VERIFY)
+        of(f)[r.yes ? YES : NO]++;
+}
+
+/* Counts what became of a listed case about a size code or a count. */
+static void count_listed(const struct plan *p, unsigned number)
+{
+    unsigned long *by = of(cards.family);
+    if (p->about == TAG_CODE && number == 2)
+        *(p->value < 256 ? &wrong_codes[0][p->value] : &by[FAR_CODE]) += 1;
+    if (p->about == SHEET_CODE && number == 6)
+        wrong_codes[p->sheet_version][p->value]++;
+    if (p->about == SHEET_CODE && number == 0)
+        recoded++;
+    if (p->about == COUNTED && number == (p->value == p->family->cards ? 0 : p->call == TAG ? 4 : 6))
+        by[p->value == 0 ? NO_CARD : p->value == p->family->cards ? FULL : p->value == p->family->cards + 1 ? ONE_ABOVE : FAR_ABOVE]++;
+}
+
 static void run_case(void)
 {
     struct result second;
@@ -736,7 +929,8 @@ static void run_case(void)
     for (size_t i = 0; i < COUNT(all_parts); i++)
         all_parts[i]->len = 0;
     make_keys();
-    struct chosen c = case_number <= plan_count ? listed_case(&plans[case_number - 1]) : random_case();
+    const struct plan *plan = case_number <= plan_count ? &plans[case_number - 1] : NULL;
+    struct chosen c = plan != NULL ? listed_case(plan) : random_case();
     where_len += (size_t)snprintf(where + where_len, sizeof where - where_len, " call %s", call_names[c.call]);
     if (c.call == REPLACE) /* it sees no shelf */
         shelf.len = 0;
@@ -744,6 +938,10 @@ static void run_case(void)
     uint64_t library = call_both(&c, &second);
     compare(c.call, library, second);
     count_places(&c, second);
+    if (second.number == 0)
+        count_done(&c, second);
+    if (plan != NULL)
+        count_listed(plan, second.number);
     if (c.honest && second.number == 0 && c.call == REPLACE)
         check_replaced(c.number);
     if (c.honest && second.number == 0 && c.call == REPORT)
@@ -799,6 +997,49 @@ static int print_vacancies(void)
                                     said_other[2], said_other[3]};
     for (size_t i = 0; i < COUNT(others); i++)
         missing += others[i] == 0;
+    return missing;
+}
+
+/* Prints how many reports there were of so many changed cards; returns how many numbers of them there were none of. */
+static int print_changed(const struct family *f)
+{
+    int missing = 0;
+    printf("  size %u, changed:", f->code);
+    for (unsigned n = 0; n <= f->limit + 2; n++) {
+        unsigned long reports = changed[f - families][n];
+        printf(n < f->limit + 2 ? " %u in %lu," : " %u or more in %lu\n", n, reports);
+        missing += reports == 0;
+    }
+    return missing;
+}
+
+/* Prints how many bytes that are no code were refused, of all that there are; returns how many were not. */
+static int print_wrong_codes(const char *name, const unsigned long seen_of[256])
+{
+    unsigned all = 0, refused = 0;
+    for (unsigned code = 0; code < 256; code++)
+        if (second_family(code) == NULL) {
+            all++;
+            refused += seen_of[code] != 0;
+        }
+    printf(" %s %u of %u;", name, refused, all);
+    return (int)(all - refused);
+}
+
+/* Prints what was seen of each size, and of the codes that are none; returns how many kinds of it were not. */
+static int print_sizes(void)
+{
+    static const char *const names[] = {"tag", "sheet of version 1", "2", "3"};
+    int missing = recoded == 0;
+    printf("sizes:\n");
+    for (const struct family *f = families; f < families + SIZES; f++) {
+        missing += print_counts("size", f->code, OF_SIZE, of(f), of_size_names);
+        missing += print_changed(f);
+    }
+    printf("bytes that are no code, refused:");
+    for (unsigned version = 0; version <= SHEET_VERSIONS; version++)
+        missing += print_wrong_codes(names[version], wrong_codes[version]);
+    printf(" done: code of another size with as many tags %lu\n", recoded);
     return missing;
 }
 
@@ -868,6 +1109,7 @@ int main(int argc, char **argv)
     }
     int missing = print_table();
     missing += print_vacancies();
+    missing += print_sizes();
     if (missing) {
         printf("%d outcomes were never seen\n", missing);
         return 1;

@@ -90,6 +90,27 @@ unsigned another_sheet_version(unsigned version)
     return 1 + (version + below(SHEET_VERSIONS - 1)) % SHEET_VERSIONS;
 }
 
+const struct family *any_family(void)
+{
+    return &families[below(SIZES)];
+}
+
+const struct family *any_family_for(unsigned cards)
+{
+    const struct family *f = any_family();
+    while (f->cards < cards)
+        f = any_family();
+    return f;
+}
+
+uint64_t near_code(const struct family *f)
+{
+    const uint64_t code = f->code;
+    const uint64_t codes[] = {0, code - 1, code + 1, code - 16, code + 16, code ^ 1u << below(8), 256 + code, 65536 + code,
+                              (UINT64_C(1) << 32) + code, (UINT64_C(1) << 63) + code, 0 - code, UINT64_MAX, below(256), any()};
+    return codes[below(COUNT(codes))];
+}
+
 /* ---- A shelf of cards ---- */
 
 size_t head_len(const struct draft *d)
@@ -177,10 +198,12 @@ void make_cards(struct draft *d, unsigned style)
 
 void make_shelf(struct draft *d)
 {
-    static const uint8_t sizes[] = {1, 1, 1, 1, 1, 2, 2, 2, 2, 2, 3, 3, 3, 4}, styles[] = {0, 0, 0, 0, 0, 0, 0, 1, 1, 1, 1, 2, 2, 2};
+    static const uint8_t styles[] = {0, 0, 0, 0, 0, 0, 0, 1, 1, 1, 1, 2, 2, 2};
     choose_number(d);
-    d->size = sizes[below(COUNT(sizes))];
-    unsigned style = styles[below(COUNT(styles))], m = planes[d->size].cards;
+    do
+        d->family = any_family();
+    while (d->family->cards > 21 && one_in(2)); /* the others take longer, and are drawn half as often */
+    unsigned style = styles[below(COUNT(styles))], m = d->family->cards;
     if (one_in(40))
         style = 3 + below(3);
     d->count = one_in(3) ? m : one_in(8) ? 1 : 1 + below(m);
@@ -334,7 +357,7 @@ static void cancel(const struct change *c)
 
 unsigned how_many(const struct draft *d)
 {
-    unsigned limit = planes[d->size].limit;
+    unsigned limit = d->family->limit;
     const unsigned usual[] = {0, 1, 2, limit, limit + 1, d->count, below(limit + 2), below(d->count + 1)};
     return usual[below(COUNT(usual))];
 }
@@ -351,23 +374,48 @@ void shuffle(const struct draft *d, unsigned order[MOST_CARDS])
 /* Moves the cards of one row to the front. */
 static void row_first(const struct draft *d, unsigned order[MOST_CARDS])
 {
-    unsigned row = 1 + below(planes[d->size].cards), front = 0;
+    unsigned row = 1 + below(d->family->rows), front = 0;
     for (unsigned i = 0; i < d->count; i++)
-        if (second_on_row(d->size, row, order[i])) {
+        if (d->family->on[row][order[i]]) {
             unsigned j = order[i];
             order[i] = order[front];
             order[front++] = j;
         }
 }
 
+static struct change some_cards(struct draft *d, const uint8_t keys[48], unsigned sheet_version, unsigned changed)
+{
+    struct change c = {d, keys, sheet_version, changed < d->count ? changed : d->count, {0}};
+    shuffle(d, c.order);
+    return c;
+}
+
 void alter_cards(struct draft *d, const uint8_t keys[48], unsigned sheet_version, unsigned changed)
 {
     static void (*const ways[])(const struct change *) = {change_each, change_each, change_each, turn_each, swap_twos, move_each, keep_codes, cancel};
-    struct change c = {d, keys, sheet_version, changed < d->count ? changed : d->count, {0}};
-    shuffle(d, c.order);
+    struct change c = some_cards(d, keys, sheet_version, changed);
     if (one_in(4))
         row_first(d, c.order);
     ways[below(COUNT(ways))](&c);
+}
+
+void change_cards(struct draft *d, unsigned changed)
+{
+    struct change c = some_cards(d, NULL, 0, changed);
+    change_each(&c);
+}
+
+void cancel_row(struct draft *d, const uint8_t keys[48], unsigned sheet_version, unsigned changed)
+{
+    struct change c = some_cards(d, keys, sheet_version, changed);
+    row_first(d, c.order);
+    cancel(&c);
+}
+
+void hide_card(struct draft *d, const uint8_t keys[48], unsigned sheet_version, unsigned number)
+{
+    struct change c = {d, keys, sheet_version, 1, {number}};
+    keep_codes(&c);
 }
 
 /* ---- Damage ---- */
@@ -390,7 +438,7 @@ static size_t relabel(struct draft *d, uint8_t *file, size_t len)
 
 size_t damage_shelf(struct draft *d, uint8_t *file, size_t len)
 {
-    unsigned m = planes[d->size].cards, count = d->count, j = 1 + below(count), head = (unsigned)head_len(d);
+    unsigned m = d->family->cards, count = d->count, j = 1 + below(count), head = (unsigned)head_len(d);
     const unsigned counts[] = {0, count - 1, count + 1, m, m + 1, 65535, below(65536), count + 256};
     const unsigned lengths[] = {1024, 1025, 65535, d->len[j] + 1, d->len[j] - 1, below(65536), below(2048)};
     const unsigned cuts[] = {1, 2, below(8), below((unsigned)len), (unsigned)len - below(13)};

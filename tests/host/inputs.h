@@ -30,11 +30,19 @@ unsigned label(unsigned which);
 /* Another of the versions that a sheet has. */
 unsigned another_sheet_version(unsigned version);
 
+/* One of the sizes that there are, and one that has room for so many cards. */
+const struct family *any_family(void);
+const struct family *any_family_for(unsigned cards);
+
+/* A number that may stand as the size code where that family's belongs: near it, far above it or equal to it in the low bytes. A few are codes. */
+uint64_t near_code(const struct family *f);
+
 /* ---- A shelf of cards ---- */
 
 /* A shelf as its cards, numbered from 1, before it is laid out as a file. */
 struct draft {
-    unsigned version, size, count;
+    const struct family *family;
+    unsigned version, count;
     uint32_t number; /* 0 in version 1 */
     unsigned len[MOST_CARDS + 2];
     uint8_t card[MOST_CARDS + 2][1025];
@@ -64,19 +72,25 @@ void renumber(struct draft *d);
 /* Takes the last card away or adds a short one. */
 void change_count(struct draft *d);
 
-/* Gives each card of a good shelf its length and bytes; version, number, size and count have been set. None, a few, half or all of the places are
+/* Gives each card of a good shelf its length and bytes; family, version, number and count have been set. None, a few, half or all of the places are
  * vacant. */
 void make_cards(struct draft *d, unsigned style);
 
 /* Puts a short card into a place, vacant or not. */
 void fill_place(struct draft *d, unsigned number);
 
-/* A good shelf of any version, number, size and count. */
+/* A good shelf of any family, version, number and count. */
 void make_shelf(struct draft *d);
 
 /* Changes so many of the cards: plainly, by withdrawing and adding them, by changing places, or so that rows of a sheet of that version cancel. */
 void alter_cards(struct draft *d, const uint8_t keys[48], unsigned sheet_version, unsigned changed);
 unsigned how_many(const struct draft *d);
+
+/* Changes so many of the cards, plainly; or cards of one row, so that it cancels; or one card into another with the same code, at a vacant place
+ * of a sheet of version 3 one whose code is zero. */
+void change_cards(struct draft *d, unsigned changed);
+void cancel_row(struct draft *d, const uint8_t keys[48], unsigned sheet_version, unsigned changed);
+void hide_card(struct draft *d, const uint8_t keys[48], unsigned sheet_version, unsigned number);
 
 /* Every card of the shelf once, in any order. */
 void shuffle(const struct draft *d, unsigned order[MOST_CARDS]);

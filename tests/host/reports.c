@@ -53,28 +53,28 @@ static void make_keys(void)
 }
 
 /* Keys, and two equal shelves of that version and number; those of number 0 may be laid out in two versions. */
-static void start_numbered(unsigned version, uint32_t number, unsigned size, unsigned count)
+static void start_numbered(unsigned version, uint32_t number, const struct family *family, unsigned count)
 {
     make_keys();
     cards[0].version = version;
     cards[0].number = number;
-    cards[0].size = size;
+    cards[0].family = family;
     cards[0].count = count;
     make_cards(&cards[0], below(3));
     cards[1] = cards[0];
     choose_version(&cards[1]);
 }
 
-static void start(unsigned size, unsigned count)
+static void start(const struct family *family, unsigned count)
 {
     choose_number(&cards[0]);
-    start_numbered(cards[0].version, cards[0].number, size, count);
+    start_numbered(cards[0].version, cards[0].number, family, count);
 }
 
 static void start_any(void)
 {
-    unsigned size = 1 + below(4);
-    start(size, 1 + below(planes[size].cards));
+    const struct family *family = any_family();
+    start(family, 1 + below(family->cards));
 }
 
 /* Two equal shelves, of which one is of that version. */
@@ -94,7 +94,7 @@ static void lay_out(void)
 
 static void join(void)
 {
-    input[48] = (uint8_t)cards[0].size;
+    input[48] = (uint8_t)cards[0].family->code;
     put_two(input + 49, (unsigned)file_len[0]);
     memcpy(input + FRONT, file[0], file_len[0]);
     memcpy(input + FRONT + file_len[0], file[1], file_len[1]);
@@ -107,18 +107,19 @@ static void join(void)
 struct plan {
     const char *name;
     void (*make)(const struct plan *);
-    unsigned size, count, changed; /* of good shelves */
-    unsigned len, said;            /* bytes, of the input or of a shelf; what stands as the first shelf's length, or as a version */
-    unsigned which, where, how;    /* which shelf is wrong, where and how */
-    unsigned version[2];           /* of both shelves, or the first of the one that is wrong */
+    const struct family *family; /* of good shelves, and the next two */
+    unsigned count, changed;
+    unsigned len, said;          /* bytes, of the input or of a shelf; what stands as the first shelf's length, or as a version or size code */
+    unsigned which, where, how;  /* which shelf is wrong, where and how */
+    unsigned version[2];         /* of both shelves, or the first of the one that is wrong */
     uint32_t number[2];
-    unsigned way;                  /* how the input is handed over; 4 for any */
+    unsigned way;                /* how the input is handed over; 4 for any */
 };
 
 /* Two good shelves, so many cards of the second changed. The sheet between them is of the newest version. */
 static void good(const struct plan *p)
 {
-    start(p->size, p->count);
+    start(p->family, p->count);
     alter_cards(&cards[1], input, SHEET_VERSIONS, p->changed);
     lay_out();
     join();
@@ -127,7 +128,7 @@ static void good(const struct plan *p)
 /* The same, any number of them changed. */
 static void good_any(const struct plan *p)
 {
-    start(p->size, p->count);
+    start(p->family, p->count);
     alter_cards(&cards[1], input, SHEET_VERSIONS, how_many(&cards[1]));
     lay_out();
     join();
@@ -138,7 +139,7 @@ static void good_any(const struct plan *p)
 static void vacated(const struct plan *p)
 {
     unsigned order[MOST_CARDS] = {0};
-    start(p->size, p->count);
+    start(p->family, p->count);
     shuffle(&cards[0], order);
     for (unsigned i = 0; i < p->count; i++) {
         fill_place(&cards[0], order[i]);
@@ -163,9 +164,9 @@ static void fit(struct draft *d, size_t len)
     }
 }
 
-static void make_long(unsigned size, unsigned count)
+static void make_long(unsigned count)
 {
-    start(size, count);
+    start(any_family_for(count), count);
     for (unsigned j = 1; j <= count; j++)
         fill(cards[0].card[j], 1024);
     cards[1] = cards[0];
@@ -175,7 +176,7 @@ static void make_long(unsigned size, unsigned count)
 static void exact(const struct plan *p)
 {
     unsigned half = (p->len - FRONT) / 2;
-    make_long(3 + below(2), 60 + below(14));
+    make_long(60 + below(14));
     fit(&cards[0], half);
     fit(&cards[1], p->len - FRONT - half);
     for (unsigned i = 0; i < p->changed; i++)
@@ -187,7 +188,7 @@ static void exact(const struct plan *p)
 /* A good first shelf that fills the input to its last byte. */
 static void filled(const struct plan *p)
 {
-    make_long(4, 64 + below(210));
+    make_long(64 + below(210));
     fit(&cards[0], 65536 - FRONT);
     lay_out();
     file_len[1] = 0;
@@ -210,7 +211,7 @@ static void noise(const struct plan *p)
 {
     fill(input, p->len);
     if (one_in(2)) {
-        input[48] = (uint8_t)(1 + below(4));
+        input[48] = (uint8_t)any_family()->code;
         put_two(input + 49, p->len > FRONT ? below(p->len - FRONT + 2) : below(2));
     }
     input_len = p->len;
@@ -231,13 +232,13 @@ static void wrong_size(const struct plan *p)
     start_any();
     lay_out();
     join();
-    input[48] = (uint8_t)p->size;
+    input[48] = (uint8_t)p->said;
 }
 
 /* A well made shelf of another count than the other's, which has 7 cards. */
 static void wrong_count(const struct plan *p)
 {
-    start(p->size, 7);
+    start(p->family, 7);
     for (unsigned j = 8; j <= p->count; j++) {
         cards[p->which].len[j] = below(4);
         fill(cards[p->which].card[j], 4);
@@ -278,8 +279,8 @@ static void wrong_version(const struct plan *p)
 /* Two good shelves of given versions and numbers; for `how` 1 the second has another count too, for 2 it is damaged. */
 static void numbered(const struct plan *p)
 {
-    unsigned size = 1 + below(4);
-    start_numbered(p->version[0], p->number[0], size, 1 + below(planes[size].cards));
+    const struct family *family = any_family();
+    start_numbered(p->version[0], p->number[0], family, 1 + below(family->cards));
     alter_cards(&cards[1], input, SHEET_VERSIONS, p->changed);
     cards[1].version = p->version[1];
     cards[1].number = p->number[1];
@@ -296,7 +297,7 @@ static void numbered(const struct plan *p)
 static void either_version(const struct plan *p)
 {
     make_keys();
-    cards[0].size = 1 + below(4);
+    cards[0].family = any_family();
     for (int which = 0; which < 2; which++) {
         memcpy(file[which], "TBS\0\0\0\1\0\4\0\1\0\0", 13);
         put_two(file[which] + 3, p->version[which]);
@@ -342,7 +343,7 @@ static void both_wrong(const struct plan *p)
     start_any();
     lay_out();
     switch (p->how) {
-    case 2: cards[0].size = 0; break;
+    case 2: break; /* the size code, below */
     case 3: file[0][0] = 't'; break;
     case 4: put_two(file[0] + head_len(&cards[0]) - 2, 0); break;
     default: file_len[0]--; break;
@@ -352,12 +353,14 @@ static void both_wrong(const struct plan *p)
     else
         file_len[1]--;
     join();
+    if (p->how == 2)
+        input[48] = 0;
 }
 
 /* A second shelf of as many empty cards as fit. Their number is said as it is for 10, one more for 11. A place may have five digits. */
 static void empty_cards(const struct plan *p)
 {
-    start(1 + below(4), 1 + below(7));
+    start(any_family(), 1 + below(7));
     lay_out();
     size_t head = head_len(&cards[1]);
     unsigned fitting = (65536 - FRONT - (unsigned)file_len[0] - (unsigned)head) / 2;
@@ -384,7 +387,7 @@ static void anything(const struct plan *p)
             file_len[which] = damage_shelf(&cards[which], file[which], file_len[which]);
     join();
     if (one_in(20))
-        input[48] = (uint8_t)any();
+        input[48] = (uint8_t)near_code(cards[0].family);
     if (one_in(20))
         put_two(input + 49, (unsigned)file_len[0] + below(5) - 2);
     if (one_in(40))
@@ -393,7 +396,7 @@ static void anything(const struct plan *p)
 
 /* ---- The listed inputs ---- */
 
-static struct plan plans[2000];
+static struct plan plans[3000];
 static size_t plan_count;
 
 static void list(struct plan plan)
@@ -425,33 +428,35 @@ static void list_lengths(unsigned way)
     list((struct plan){"a first shelf that fills the input", filled, .said = 65535, .way = way});
 }
 
-static void list_good(unsigned size)
+static void list_good(const struct family *f)
 {
-    unsigned m = planes[size].cards, d = planes[size].limit;
+    unsigned m = f->cards, d = f->limit;
     const unsigned counts[] = {1, m / 2 + 1, m - 1, m}, changed[] = {0, 1, d, d + 1, m};
     for (size_t i = 0; i < COUNT(counts); i++)
         for (size_t k = 0; k < COUNT(changed); k++)
-            list((struct plan){"two good shelves", good, size, counts[i], changed[k], .way = 4});
+            list((struct plan){"two good shelves", good, f, counts[i], changed[k], .way = 4});
+    for (unsigned n = 2; n < d; n++)
+        list((struct plan){"two good shelves", good, f, m, n, .way = 4});
     for (unsigned count = 1; count <= m; count++)
-        list((struct plan){"two good shelves, every count", good_any, size, count, .way = 4});
+        list((struct plan){"two good shelves, every count", good_any, f, count, .way = 4});
 }
 
-static void list_vacated(unsigned size)
+static void list_vacated(const struct family *f)
 {
-    unsigned m = planes[size].cards, d = planes[size].limit;
+    unsigned m = f->cards, d = f->limit;
     const unsigned changed[] = {0, 1, d, d + 1, m};
     for (size_t i = 0; i < COUNT(changed); i++)
         for (unsigned which = 0; which < 2; which++)
             for (unsigned how = 0; how < 2; how++)
-                list((struct plan){"vacant places", vacated, size, m, changed[i], .which = which, .how = how, .way = 4});
+                list((struct plan){"vacant places", vacated, f, m, changed[i], .which = which, .how = how, .way = 4});
 }
 
 static void list_refusals(unsigned which)
 {
-    for (unsigned size = 1; size <= 4; size++) {
-        const unsigned counts[] = {0, 6, 8, planes[size].cards + 1};
+    for (const struct family *f = families; f < families + SIZES; f++) {
+        const unsigned counts[] = {0, 6, 8, f->cards + 1};
         for (size_t i = 0; i < COUNT(counts); i++)
-            list((struct plan){"another count", wrong_count, size, counts[i], .which = which, .way = 4});
+            list((struct plan){"another count", wrong_count, f, counts[i], .which = which, .way = 4});
     }
     for (unsigned version = 1; version <= 2; version++) {
         for (unsigned len = 0; len < 15; len++)
@@ -493,15 +498,15 @@ static void list_versions(void)
 
 static void list_all(void)
 {
-    static const unsigned codes[] = {0, 5, 6, 9, 17, 127, 128, 129, 132, 254, 255};
     for (unsigned way = 0; way < 4; way++)
         list_lengths(way);
-    for (unsigned size = 1; size <= 4; size++) {
-        list_good(size);
-        list_vacated(size);
+    for (const struct family *f = families; f < families + SIZES; f++) {
+        list_good(f);
+        list_vacated(f);
     }
-    for (size_t i = 0; i < COUNT(codes); i++)
-        list((struct plan){"wrong size code", wrong_size, .size = codes[i], .way = 4});
+    for (unsigned code = 0; code < 256; code++)
+        if (second_family(code) == NULL)
+            list((struct plan){"wrong size code", wrong_size, .said = code, .way = 4});
     list_versions();
     list_refusals(0);
     list_refusals(1);
@@ -668,6 +673,7 @@ static const char *const kinds[KINDS] = {
     "first shelf: 5 at a card", "first shelf: 5, left over", "second shelf: 3", "second shelf: 5 at a card", "second shelf: 5, left over",
     "second shelf: 21", "second shelf: 25", "intact", "named", "beyond"};
 static unsigned long seen[KINDS];
+static unsigned long of_size[SIZES][KINDS - INTACT]; /* the answers, by size */
 
 /* Which of those the expected text is, for a refusal by looking at the shelves; KINDS if none. */
 static unsigned kind(void)
@@ -740,14 +746,30 @@ static void run_case(void)
     if (k == KINDS)
         differs(plan, way, "no kind of output that the program can print");
     seen[k]++;
-    if (k >= INTACT)
+    if (k >= INTACT) {
+        of_size[second_family(input[48]) - families][k - INTACT]++;
         count_turned();
+    }
+}
+
+/* Prints how often each answer was seen of each size; returns how many were not. */
+static int print_sizes(void)
+{
+    int missing = 0;
+    for (unsigned i = 0; i < SIZES; i++) {
+        printf("size %u:", families[i].code);
+        for (unsigned k = INTACT; k < KINDS; k++) {
+            printf(" %s %lu%s", kinds[k], of_size[i][k - INTACT], k + 1 < KINDS ? "," : i % 2 == 0 ? "; " : "\n");
+            missing += of_size[i][k - INTACT] == 0;
+        }
+    }
+    return missing;
 }
 
 /* Prints how often each kind of output was seen; returns how many were not. */
 static int print_table(void)
 {
-    int missing = 0;
+    int missing = print_sizes();
     for (unsigned k = 0; k < KINDS; k++) {
         printf("%s %lu%s", kinds[k], seen[k], k == PAST || k == TAG_LEFT || k == REPORT_25 || k + 1 == KINDS ? "\n" : "; ");
         missing += seen[k] == 0;

@@ -4,10 +4,10 @@ use Rattle.incidence.specs.Family.{Lawful, rowsOf, itemsOf}
 use Rattle.incidence.proofs.Counting.{count-most}
 use Rattle.affine.specs.Lines.{cards}
 use Rattle.affine.specs.Affine.{sized, rowCount, tagged, affine}
-use Rattle.affine.proofs.Computing.{elements-few, sized-offered, sized-high}
+use Rattle.affine.proofs.Computing.{points-few, elements-few, sized-offered, sized-high}
 use Rattle.affine.proofs.Disjunct.{disjunct}
 use Rattle.affine.proofs.Tagging.{row-low, row-high, tag-back, tag-high, row-back, no-tag, made-earlier, made-adds-up}
-use Rattle.affine.proofs.Tables.{rows-high, points-high}
+use Rattle.affine.proofs.Tables.{rows-high}
 use Rattle.affine.proofs.Walks.{rows-few, items-few}
 use lib.ListN.{length}
 
@@ -28,7 +28,7 @@ module _ (s l : ℕ) (size : sized s l ≡ true) where
   -- how large the numbers are
   pub items-most : affine s l .items ≤ 72
   unfolding affine cards
-  items-most = omega (arith, points-high s l size, sized-high s l size, elements-few s (sized-offered s l size) .1)
+  items-most = omega (arith, points-few s (sized-offered s l size) .1, sized-high s l size, elements-few s (sized-offered s l size) .1)
 
   pub rows-most : affine s l .rows ≤ 64
   unfolding affine

@@ -3,6 +3,7 @@ use Rattle.fips197.proofs.Kit.{_≡_, refl, Bool, true, _⊎_, inl, inr, ℕ, z
 use Rattle.blocks.specs.Block.{if_then_else_}
 use Rattle.incidence.proofs.Booleans.{and-left, and-right, or-cases}
 use Rattle.incidence.proofs.Counting.{every, every-at}
+use Rattle.affine.specs.Lines.{points}
 use Rattle.affine.specs.Affine.{sized}
 use Rattle.affine.specs.Field.{offered, polynomial, timesX, productBy, product, power, inverse}
 
@@ -19,6 +20,10 @@ not-two = of-both (λ s. (s ≡ 2 → ⊥) → s ≡ 3) (λ ne. absurd (ne refl)
 
 pub elements-few : (s : ℕ) → offered s ≡ true → (4 ≤ 2 ^ s) × (2 ^ s ≤ 8)
 elements-few = of-both (λ s. (4 ≤ 2 ^ s) × (2 ^ s ≤ 8)) (omega arith, omega arith) (omega arith, omega arith)
+
+pub points-few : (s : ℕ) → offered s ≡ true → (16 ≤ points s) × (points s ≤ 64)
+unfolding points
+points-few = of-both (λ s. (16 ≤ 2 ^ s * 2 ^ s) × (2 ^ s * 2 ^ s ≤ 64)) (omega arith, omega arith) (omega arith, omega arith)
 
 -- ---- the tests
 

@@ -12,7 +12,7 @@ use Rattle.affine.specs.Lines.{points}
 use Rattle.affine.specs.Affine.{sized, rowCount, tagged, affine}
 use Rattle.affine.specs.Walk.{firsts, courseOf, placeOn, rowAt, rowsMet, itemCount}
 use Rattle.affine.proofs.FieldLaws.{Field, field}
-use Rattle.affine.proofs.Computing.{of-both, elements-few, sized-offered, sized-high}
+use Rattle.affine.proofs.Computing.{points-few, elements-few, sized-offered, sized-high}
 use Rattle.affine.proofs.Meeting.{spot-high}
 use Rattle.affine.proofs.Listings.{firsts-length}
 
@@ -54,12 +54,8 @@ module _ (s : ℕ) (here : offered s ≡ true) where
         go true = (omega arith, level-place)
         go false = (omega arith, sloping-place)
 
-pub points-few : (s : ℕ) → offered s ≡ true → points s ≤ 64
-unfolding points
-points-few = of-both (λ s. 2 ^ s * 2 ^ s ≤ 64) (omega arith) (omega arith)
-
 pub rows-before : (s : ℕ) → offered s ≡ true → (t : ℕ) → t < 2 ^ s → t * 2 ^ s ≤ 64
-rows-before s here t few = omega (arith, spot-high s (F s here) 0 t (omega arith) few, points-few s here)
+rows-before s here t few = omega (arith, spot-high s (F s here) 0 t (omega arith) few, points-few s here .1)
 
 -- ---- lists written from the front
 

@@ -15,7 +15,7 @@ use Rattle.affine.proofs.Tagging.{tagged-yes, tagged-no, made-is, made-
 use Rattle.affine.proofs.Listings.{passing, passing-is}
 use Rattle.affine.proofs.Eliminating.{remainders-length}
 use Rattle.affine.proofs.Eliminated.{setUp, cardAlong, rowSet, goThrough, quickly, quickly-is}
-use Rattle.affine.proofs.Computing.{of-both, sized-offered, sized-low, sized-high}
+use Rattle.affine.proofs.Computing.{of-both, points-few, sized-offered, sized-low, sized-high}
 
 -- ---- the ten sizes
 
@@ -40,10 +40,6 @@ module _ (s l : ℕ) (size : sized s l ≡ true) where
   unfolding sizeIndex
   index-high =
       of-both (λ s. l ≤ 2 ^ s + 1 → (if eqb s 2 then l - 3 else l) ≤ 9) (λ u. omega arith) (λ u. omega arith) s (sized-offered s l size) (sized-high s l size)
-
-  pub points-high : points s ≤ 64
-  unfolding points
-  points-high = of-both (λ s. 2 ^ s * 2 ^ s ≤ 64) (omega arith) (omega arith) s (sized-offered s l size)
 
 -- ---- a list for each size, 64 places a size
 
@@ -139,7 +135,7 @@ module _ (s l : ℕ) (size : sized s l ≡ true) where
 
   pub rows-high : rowCount s l ≤ 64
   unfolding rowCount
-  rows-high = omega (arith, count-most (isRow s l) (points s), points-high s l size)
+  rows-high = omega (arith, count-most (isRow s l) (points s), points-few s (sized-offered s l size) .1)
 
 -- ---- tags and made rows
 

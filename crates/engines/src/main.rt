@@ -1,6 +1,6 @@
 // The two engines of AES-128 side by side: on a chain of blocks, and on sheets tagged by one and verified by the other, for a full shelf of short
-// cards of each size. The library runs on the tables; the plain engine's tags are made and taken back here, from and to the sums of the
-// tagged rows that a session carries. `stdout` has what each line must say.
+// cards of each plane and of the largest affine size. The library runs on the tables; the plain engine's tags are made and taken back here,
+// from and to the sums of the tagged rows that a session carries. `stdout` has what each line must say.
 use blocks::block;
 use fips197::schedule;
 use trial::inputs;
@@ -174,4 +174,5 @@ fn main() {
     size(2);
     size(3);
     size(4);
+    size(57);
 }

@@ -1,7 +1,8 @@
 // The command for people: packs card files into a message file, with a number or without, tags it, verifies and reports it, replaces,
-// withdraws and adds a card in its tag file, and lists and fetches its cards. What it computes is proved in the crates below; here it reads
-// and writes.
+// withdraws and adds a card in its tag file, lists and fetches its cards, and lists the sizes. What it computes is proved in the crates
+// below; here it reads and writes.
 mod cards;
+mod codes;
 mod heads;
 mod input;
 mod judging;
@@ -46,6 +47,8 @@ fn run_small(word: &[u8]) {
         cards::fetch();
     } else if check::same(word, b"list") {
         cards::list();
+    } else if check::same(word, b"sizes") {
+        codes::list();
     } else if check::same(word, b"help") {
         help();
     } else {

@@ -34,6 +34,10 @@ pub fn usage(fd: i32) {
         fd,
         b"gtm list SHELF                            the cards, their lengths and the vacant places\n",
     );
+    io::write_all(
+        fd,
+        b"gtm sizes                                 each SIZE: the most cards, the tags, the limit and the sheet's bytes\n",
+    );
     io::write_all(fd, b"gtm help                                  this text\n");
 }
 
@@ -41,7 +45,7 @@ pub fn usage(fd: i32) {
 fn usage_with_keys(fd: i32) {
     io::write_all(
         fd,
-        b"gtm tag KEYS SIZE SHELF OUT               the sheet of a shelf; SIZE is 1 to 4\n",
+        b"gtm tag KEYS SIZE SHELF OUT               the sheet of a shelf; SIZE is 1 to 4, 35 to 37 or 51 to 57\n",
     );
     io::write_all(fd, b"gtm verify KEYS SHELF SHEET               yes or no\n");
     io::write_all(
@@ -91,7 +95,7 @@ pub fn refused(r: Refusal) {
 fn of_message(number: u8) {
     match number {
         1 => err(b"the key file does not have 48 bytes\n"),
-        2 => err(b"the size is not 1, 2, 3 or 4\n"),
+        2 => err(b"the size is not one of 1 to 4, 35 to 37 and 51 to 57\n"),
         3 => err(
             b"the shelf has too few or over 65,536 bytes (a place: with that card file), or does not begin as a shelf of version 1 or 2\n",
         ),

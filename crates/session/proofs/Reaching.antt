@@ -14,7 +14,7 @@ use Rattle.tagging.specs.Tagging.{keysIn}
 use Rattle.session.specs.declared.Session.{Session}
 use Rattle.session.specs.Session.{closed, isOpen, sessionHead, refuse22, refuse23, refuse24, beginRefusal, beginGives, putRefusal, withItem, putGives, closeRefusal, closeGives, after, Reached, Given}
 use Rattle.session.proofs.Stepping.{none-of, begin-tells, put-tells}
-use Rattle.session.proofs.Running.{taken-all, runs}
+use Rattle.session.proofs.Running.{taken-all, runs, closed-shut}
 
 -- ---- every session of a run is open or closed
 
@@ -78,8 +78,7 @@ reaches keys c n number items zero = Reached.begun keys c n number
 reaches keys c n number items (suc k) = Reached.putOne (after keys c n number items k) (items (suc k)) (reaches keys c n number items k)
 
 closed-not-open : isOpen closed ≡ true → ⊥
-unfolding isOpen closed countFits known
-closed-not-open e = not-both false e refl
+closed-not-open e = not-both (isOpen closed) e closed-shut
 
 module _ (s : Session) (o : isOpen s ≡ true) where
   fits : countFits (s .code) (s .count) ≡ true

@@ -1,7 +1,7 @@
 -- A run of a session: Begin, a Put for each item, Close. What the session carries after each step (`taken-all`); that a run gets to its
 -- end (`accepts`, `runs`); that Close then writes the file that Tag's rule gives for the items put (`closes`); and what a run cannot do:
 -- put one item more (`full`), close before the last (`early`), or go on after Close (`shut`). Last, a put of a vacant place (`put-vacant`).
-use Rattle.fips197.proofs.Kit.{_≡_, refl, sym, ap, _∙_, subst, true, List, [], _∷_, _++_, _⊎_, inl, inr, ℕ, zero, suc, _+_, _≤_, _<_, le-of-suc-le-suc, eq-or-lt-of-le, add-one, arith, leb, length, drop, eq-eqb, ne-eqb, le-leb, lt-ltb, le-ltb}
+use Rattle.fips197.proofs.Kit.{_≡_, refl, sym, ap, _∙_, subst, true, false, List, [], _∷_, _++_, _⊎_, inl, inr, ℕ, zero, suc, _+_, _≤_, _<_, le-of-suc-le-suc, eq-or-lt-of-le, add-one, arith, leb, length, drop, eq-eqb, ne-eqb, le-leb, lt-ltb, le-ltb}
 use Rattle.blocks.specs.Block.{zeros, slot}
 use Rattle.blocks.proofs.Slots.{slot-length}
 use Rattle.cipher.specs.Cmac.{cmac}
@@ -11,7 +11,7 @@ use Rattle.files.specs.Refusals.{refusal, none, first}
 use Rattle.files.specs.declared.tagfile.Head.{Head}
 use Rattle.files.specs.TagFile.{newestTagFile, stampFor, headFor, fileSize, countFits}
 use Rattle.files.specs.Arguments.{refuse7, refuse9}
-use Rattle.incidence.proofs.Booleans.{and-left, and-both}
+use Rattle.incidence.proofs.Booleans.{and-left, and-both, and-false-l, and-false-r}
 use Rattle.files.proofs.Passing.{unless-true, unless-false, given}
 use Rattle.keyed.specs.Keyed.{itemHash}
 use Rattle.keyed.proofs.KeyedLaws.{empty-vacant, hash-vacant, itemHash-length}
@@ -179,10 +179,15 @@ module _ (keys : List ℕ) (c n number : ℕ) (items : ℕ → List ℕ) where
       first-same _ _ (refuse7 (fileSize (sessionHead s)) (length out)) none (refusal 23 k) _ (unless-true _ 24 0 (H .is-open))
       (unless-false _ 23 (s .taken) (ne-eqb (s .taken) (s .count) d) ∙ ap (refusal 23) (H .taken)) refl
 
--- A put and a close of the closed session are refused: 24.
+-- The closed session is not open: it has no count.
+pub closed-shut : isOpen closed ≡ false
+unfolding isOpen closed countFits
+closed-shut = and-false-l _ _ (and-false-r (known 0) _ refl)
+
+-- A put and a close of it are refused: 24.
 pub shut : (item out : List ℕ) → (putRefusal closed item ≡ refusal 24 0) × (closeRefusal closed out ≡ refusal 24 0)
-unfolding putRefusal closeRefusal refuse24 isOpen closed countFits known first
-shut item out = (refl, refl)
+unfolding putRefusal closeRefusal refuse24 first
+shut item out = (rw closed-shut refl, rw closed-shut refl)
 
 -- Document 02, 2.5: a put of an empty item is refused by 24 and 22 alone; where it passes it adds nothing to the sums, and counts as an item.
 pub put-vacant : (s : Session) → length (s .sums) ≡ 1312

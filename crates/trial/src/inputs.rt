@@ -77,7 +77,7 @@ pub fn alter(shelf: &mut [u8], first: usize, a: usize, e: usize)
     }
 }
 
-// Document 01, planes: how many cards a size has at most.
+// Document 01, planes, and document 02, 2.7: how many cards a size has at most.
 pub fn most_cards(code: u64) -> usize
     ensures { λ r. ⌜ r ≤ 273 ⌝ }
 {
@@ -85,11 +85,21 @@ pub fn most_cards(code: u64) -> usize
         1 => 7,
         2 => 21,
         3 => 73,
+        35 => 18,
+        36 => 19,
+        37 => 20,
+        51 => 66,
+        52 => 67,
+        53 => 68,
+        54 => 69,
+        55 => 70,
+        56 => 71,
+        57 => 72,
         _ => 273,
     }
 }
 
-// Document 02, 2.3 and 2.5: how long a size's sheet of version 2 or 3 is, and where its tags start.
+// Document 02, 2.3, 2.5 and 2.7: how long a size's sheet of version 2 or 3 is, and where its tags start.
 pub fn sheet_length(code: u64) -> usize
     ensures { λ r. ⌜ (92 ≤ r) × (r ≤ 1340) ⌝ }
 {
@@ -97,6 +107,14 @@ pub fn sheet_length(code: u64) -> usize
         1 => 92,
         2 => 188,
         3 => 476,
+        35 => 156,
+        36 | 37 => 172,
+        51 => 332,
+        52 => 396,
+        53 => 412,
+        54 => 428,
+        55 => 444,
+        56 | 57 => 460,
         _ => 1340,
     }
 }

@@ -98,6 +98,9 @@ fn run(line: &[u8]) {
     calls::run(line, call, &n, &bytes);
 }
 
+// How many bytes a text of lines has at most.
+pub const TEXT_MOST: usize = 65536;
+
 // Runs each line of a text.
 pub fn run_all(text: &[u8]) {
     let mut at = 0;

@@ -1,33 +1,29 @@
 -- By the definition.
-use Rattle.fips197.proofs.Kit.{ap, _*_, _+_, _-_, _^_, _≤_, ℕ, arith}
+use Rattle.fips197.proofs.Kit.{ap, _*_, _+_, _-_, _≤_, ℕ, arith}
 use Rattle.affine.specs.Lines.{points, cards}
 use Rattle.affine.specs.Affine.{affine}
-use Rattle.affine.proofs.Computing.{of-both, elements-few, sized-offered, sized-high}
-use Rattle.affine.proofs.Tables.{points-high}
+use Rattle.affine.proofs.Computing.{points-few, elements-few, sized-offered, sized-high}
 use Rattle.affine.proofs.table.items.Statement.{statement}
 use Rattle.affine.proofs.table.items.Tie as tie
 
 elements-requires : tie.Need-elements-requires
 elements-requires c κs = sized-offered _ _ (c .pre)
 
--- at most 64 points
-square : (c : tie.After-elements) → c .elements .result * c .elements .result ≤ 64
+-- at most 64 points, and at least 16
+square : (c : tie.After-elements) → (16 ≤ c .elements .result * c .elements .result) × (c .elements .result * c .elements .result ≤ 64)
 unfolding points
-square c = rw (c .elements .ensures) (points-high _ _ (c .before .pre))
-
-some : (c : tie.After-elements) → 16 ≤ c .elements .result * c .elements .result
-some c = rw (c .elements .ensures) (of-both (λ s. 16 ≤ 2 ^ s * 2 ^ s) (omega arith) (omega arith) (c .before .args .s) (sized-offered _ _ (c .before .pre)))
+square c = rw (c .elements .ensures) (points-few (c .before .args .s) (sized-offered _ _ (c .before .pre)))
 
 mul-result : tie.Need-mul-result
-mul-result c = omega (arith, square c)
+mul-result c = omega (arith, square c .1)
 
 sub-result : tie.Need-sub-result
-sub-result c = omega (arith, some c)
+sub-result c = omega (arith, square c .0)
 
 add-result : tie.Need-add-result
 add-result c =
     let a = c .before .args in
-    omega (arith, square c, sized-high (a .s) (a .l) (c .before .pre), elements-few (a .s) (sized-offered _ _ (c .before .pre)) .1)
+    omega (arith, square c .1, sized-high (a .s) (a .l) (c .before .pre), elements-few (a .s) (sized-offered _ _ (c .before .pre)) .1)
 
 returns : tie.Need-returns
 unfolding affine cards points

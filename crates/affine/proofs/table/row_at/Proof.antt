@@ -3,7 +3,8 @@ use Rattle.fips197.proofs.Kit.{refl, ap, _+_, _-_, _*_, _<_, ℕ, arith, needs}
 use Rattle.affine.specs.Field.{polynomial, timesX, productBy, product}
 use Rattle.affine.specs.Lines.{points, xOf, yOf, holds, chosen, isRow}
 use Rattle.affine.specs.Walk.{sizeIndex}
-use Rattle.affine.proofs.Tables.{rowsTest, begins, partTest, ranks, rowList, row-read, index-high, points-high}
+use Rattle.affine.proofs.Computing.{points-few, sized-offered}
+use Rattle.affine.proofs.Tables.{rowsTest, begins, partTest, ranks, rowList, row-read, index-high}
 use Rattle.affine.proofs.table.row_at.Statement.{statement}
 use Rattle.affine.proofs.table.row_at.Tie as tie
 
@@ -11,7 +12,7 @@ use Rattle.affine.proofs.table.row_at.Tie as tie
 place : (c : tie.After-index) → 64 * c .index .result + (c .before .args .p - 1) < 640
 place c =
     let a = c .before .args in
-    omega (arith, c .index .ensures, index-high (a .s) (a .l) (c .before .pre .0), c .before .pre .1, points-high (a .s) (a .l) (c .before .pre .0))
+    omega (arith, c .index .ensures, index-high (a .s) (a .l) (c .before .pre .0), c .before .pre .1, points-few (a .s) (sized-offered _ _ (c .before .pre .0)) .1)
 
 mul-k : tie.Need-mul-k
 mul-k c = omega (arith, place c)

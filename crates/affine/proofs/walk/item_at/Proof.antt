@@ -2,8 +2,8 @@
 use Rattle.fips197.proofs.Kit.{_∙_, ap, ℕ, _+_, _-_, _^_, _≤_, _<_, arith, eq-eqb, ne-eqb, needs}
 use Rattle.affine.specs.declared.Course.{Course}
 use Rattle.affine.specs.Walk.{itemAt, itemCount, placeOn}
-use Rattle.affine.proofs.Computing.{elements-few, sized-offered, sized-high}
-use Rattle.affine.proofs.Steps.{start-low, place-few, points-few, count-few}
+use Rattle.affine.proofs.Computing.{points-few, elements-few, sized-offered, sized-high}
+use Rattle.affine.proofs.Steps.{start-low, place-few, count-few}
 use Rattle.affine.proofs.walk.item_at.Statement.{statement}
 use Rattle.affine.proofs.walk.item_at.Tie as tie
 
@@ -38,7 +38,7 @@ point c =
     let b = d .before .before in
     let here = sized-offered (b .args .s) (b .args .l) (b .pre .0) in
     let w = place-few (b .args .s) here (b .args .course) (b .args .k - 1) (start d) (place d) in
-    rw (c .place-on .ensures) (w .0, omega (arith, w .1, points-few (b .args .s) here))
+    rw (c .place-on .ensures) (w .0, omega (arith, w .1, points-few (b .args .s) here .1))
 
 few : (c : tie.After-place-on) → c .before .before .before .args .l ≤ 9
 few c =

@@ -1,7 +1,8 @@
 -- By its test: a place is a point, and points are few (Steps).
 use Rattle.fips197.proofs.Kit.{_+_, _*_, _≤_, arith, bitXor, needs}
 use Rattle.affine.specs.Walk.{placeOn}
-use Rattle.affine.proofs.Steps.{level-place, sloping-place, points-few, rows-before}
+use Rattle.affine.proofs.Computing.{points-few}
+use Rattle.affine.proofs.Steps.{level-place, sloping-place, rows-before}
 use Rattle.affine.proofs.walk.place_on.Statement.{statement}
 use Rattle.affine.proofs.walk.place_on.Tie as tie
 
@@ -10,7 +11,7 @@ level c =
     let b = c .before .before in
     let d = b .before in
     rw (b .elements .ensures)
-    (omega (arith, level-place (d .args .s) (d .pre .0) (d .args .course) (d .args .t) (d .pre .1 .0) (d .pre .1 .1), points-few (d .args .s) (d .pre .0)))
+    (omega (arith, level-place (d .args .s) (d .pre .0) (d .args .course) (d .args .t) (d .pre .1 .0) (d .pre .1 .1), points-few (d .args .s) (d .pre .0) .1))
 
 sloping : (c : tie.After-struct-known2) → let b = c .before .before .before in
     b .before .args .t * b .elements .result + bitXor (b .before .args .course .start) (c .before .product .result) + 1 ≤ 64
@@ -18,7 +19,7 @@ sloping c =
     let b = c .before .before .before in
     let d = b .before in
     rw (b .elements .ensures, c .before .product .ensures)
-    (omega (arith, sloping-place (d .args .s) (d .pre .0) (d .args .course) (d .args .t) (d .pre .1 .0) (d .pre .1 .1), points-few (d .args .s) (d .pre .0)))
+    (omega (arith, sloping-place (d .args .s) (d .pre .0) (d .args .course) (d .args .t) (d .pre .1 .0) (d .pre .1 .1), points-few (d .args .s) (d .pre .0) .1))
 
 returns : tie.Need-returns
 unfolding placeOn
