@@ -2,8 +2,8 @@
 use Rattle.fips197.proofs.Kit.{_≡_, true, ℕ, _≤_, arith}
 use Rattle.incidence.specs.Family.{Lawful, rowsOf, itemsOf}
 use Rattle.incidence.proofs.Counting.{count-most}
-use Rattle.affine.specs.Lines.{cards}
-use Rattle.affine.specs.Affine.{sized, rowCount, tagged, affine}
+use Rattle.affine.specs.Lines.{affineItems}
+use Rattle.affine.specs.Affine.{sized, rowCount, isTagged, affineFamily}
 use Rattle.affine.proofs.Computing.{points-few, elements-few, sized-offered, sized-high}
 use Rattle.affine.proofs.Disjunct.{disjunct}
 use Rattle.affine.proofs.Tagging.{row-low, row-high, tag-back, tag-high, row-back, no-tag, made-earlier, made-adds-up}
@@ -12,8 +12,8 @@ use Rattle.affine.proofs.Walks.{rows-few, items-few}
 use lib.ListN.{length}
 
 module _ (s l : ℕ) (size : sized s l ≡ true) where
-  pub lawful : Lawful (affine s l)
-  unfolding affine
+  pub lawful : Lawful (affineFamily s l)
+  unfolding affineFamily
   lawful = record {
     disjunct = disjunct s l size;
     row-low = λ k a b. row-low s l k a b;
@@ -26,24 +26,24 @@ module _ (s l : ℕ) (size : sized s l ≡ true) where
   }
 
   -- how large the numbers are
-  pub items-most : affine s l .items ≤ 72
-  unfolding affine cards
+  pub items-most : affineFamily s l .items ≤ 72
+  unfolding affineFamily affineItems
   items-most = omega (arith, points-few s (sized-offered s l size) .1, sized-high s l size, elements-few s (sized-offered s l size) .1)
 
-  pub rows-most : affine s l .rows ≤ 64
-  unfolding affine
+  pub rows-most : affineFamily s l .rows ≤ 64
+  unfolding affineFamily
   rows-most = rows-high s l size
 
-  pub tags-most : affine s l .tags ≤ 64
-  unfolding affine
-  tags-most = omega (arith, count-most (tagged s l) (rowCount s l), rows-high s l size)
+  pub tags-most : affineFamily s l .tags ≤ 64
+  unfolding affineFamily
+  tags-most = omega (arith, count-most (isTagged s l) (rowCount s l), rows-high s l size)
 
-  pub limit-most : affine s l .limit ≤ 7
-  unfolding affine
+  pub limit-most : affineFamily s l .limit ≤ 7
+  unfolding affineFamily
   limit-most = omega (arith, sized-high s l size, elements-few s (sized-offered s l size) .1)
 
-  pub row-list-few : (j : ℕ) → length (rowsOf (affine s l) j) ≤ 8
+  pub row-list-few : (j : ℕ) → length (rowsOf (affineFamily s l) j) ≤ 8
   row-list-few j = omega (arith, rows-few s l size j, elements-few s (sized-offered s l size) .1)
 
-  pub item-list-few : (i : ℕ) → length (itemsOf (affine s l) i) ≤ 9
+  pub item-list-few : (i : ℕ) → length (itemsOf (affineFamily s l) i) ≤ 9
   item-list-few i = omega (arith, items-few s l size i, elements-few s (sized-offered s l size) .1)

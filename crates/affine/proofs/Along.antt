@@ -3,9 +3,9 @@
 use Rattle.fips197.proofs.Kit.{_≡_, refl, sym, ap, _∙_, Bool, true, false, ℕ, _^_, _≤_, _<_, arith, eqb, eqb-true, eqb-false, ne-eqb, bitXor, xor-lt}
 use Rattle.fips197.proofs.Xor.{xor-cancel}
 use native.Mathlib.Nat.{mul-le-mul-right}
-use Rattle.affine.specs.Field.{product, inverse}
+use Rattle.affine.specs.Field.{product, elementInverse}
 use Rattle.affine.specs.declared.Line.{Line}
-use Rattle.affine.specs.Lines.{points, xOf, yOf, holds}
+use Rattle.affine.specs.Lines.{points, xOf, yOf, onLine}
 use Rattle.affine.specs.Walk.{courseOf, placeOn}
 use Rattle.affine.proofs.FieldLaws.{Field, zero-left}
 use Rattle.affine.proofs.Meeting.{spot, x-low, y-low, same-point, spot-high, spot-x, spot-y, held, holds-spot}
@@ -13,15 +13,15 @@ use Rattle.affine.proofs.Listings.{Passing}
 
 module _ (s : ℕ) (F : Field s) where
   -- u (v / u) = v, and v = w / u where u v = w
-  quotient : (u v : ℕ) → 0 < u → u < 2 ^ s → v < 2 ^ s → product s u (product s (inverse s u) v) ≡ v
-  quotient u v l h k = sym (F .assoc u (inverse s u) v) ∙ ap (λ (z : ℕ). product s z v) (F .inv u l h) ∙ F .one v k
+  quotient : (u v : ℕ) → 0 < u → u < 2 ^ s → v < 2 ^ s → product s u (product s (elementInverse s u) v) ≡ v
+  quotient u v l h k = sym (F .assoc u (elementInverse s u) v) ∙ ap (λ (z : ℕ). product s z v) (F .inv u l h) ∙ F .one v k
 
-  pub divided : (u v w : ℕ) → 0 < u → u < 2 ^ s → v < 2 ^ s → product s u v ≡ w → v ≡ product s (inverse s u) w
+  pub divided : (u v w : ℕ) → 0 < u → u < 2 ^ s → v < 2 ^ s → product s u v ≡ w → v ≡ product s (elementInverse s u) w
   divided u v w l h k e =
       sym (F .one v k)
-      ∙ ap (λ (z : ℕ). product s z v) (sym (F .inv u l h) ∙ F .comm u (inverse s u))
-      ∙ F .assoc (inverse s u) u v
-      ∙ ap (product s (inverse s u)) e
+      ∙ ap (λ (z : ℕ). product s z v) (sym (F .inv u l h) ∙ F .comm u (elementInverse s u))
+      ∙ F .assoc (elementInverse s u) u v
+      ∙ ap (product s (elementInverse s u)) e
 
 module _ (s : ℕ) (F : Field s) (L : Line) (la : L .a < 2 ^ s) (lb : L .b < 2 ^ s) (lc : L .c < 2 ^ s) (some : L .a ≡ 0 → L .b ≡ 0 → ⊥) where
   -- what the two cases share: x and y at each place give points of the line, rising, and a point of the line is at the place that it says
@@ -30,9 +30,9 @@ module _ (s : ℕ) (F : Field s) (L : Line) (la : L .a < 2 ^ s) (lb : L .b < 2 ^
       (on : (t : ℕ) → t < 2 ^ s → bitXor (product s (L .a) (x t)) (product s (L .b) (y t)) ≡ L .c)
       (up : (t u : ℕ) → t < u → u < 2 ^ s → spot s (x t) (y t) < spot s (x u) (y u))
       (place : ℕ → ℕ) (low : (p : ℕ) → 1 ≤ p → p ≤ points s → place p < 2 ^ s)
-      (x-is : (p : ℕ) → 1 ≤ p → p ≤ points s → holds s L p ≡ true → xOf s p ≡ x (place p))
-      (y-is : (p : ℕ) → 1 ≤ p → p ≤ points s → holds s L p ≡ true → yOf s p ≡ y (place p)) where
-    walked : Passing (holds s L) (points s) (placeOn s (courseOf s L)) (2 ^ s)
+      (x-is : (p : ℕ) → 1 ≤ p → p ≤ points s → onLine s L p ≡ true → xOf s p ≡ x (place p))
+      (y-is : (p : ℕ) → 1 ≤ p → p ≤ points s → onLine s L p ≡ true → yOf s p ≡ y (place p)) where
+    walked : Passing (onLine s L) (points s) (placeOn s (courseOf s L)) (2 ^ s)
     walked = record {
       low = λ t l. rw (is t) (omega arith);
       high = λ t l. rw (is t) (spot-high s F (x t) (y t) (lx t l) (ly t l));
@@ -49,10 +49,10 @@ module _ (s : ℕ) (F : Field s) (L : Line) (la : L .a < 2 ^ s) (lb : L .b < 2 ^
     }
 
   -- where a is 0
-  level : L .a ≡ 0 → Passing (holds s L) (points s) (placeOn s (courseOf s L)) (2 ^ s)
+  level : L .a ≡ 0 → Passing (onLine s L) (points s) (placeOn s (courseOf s L)) (2 ^ s)
   unfolding courseOf placeOn
   level e =
-      walked (λ t. t) (λ t. y) (λ t. rw e (omega arith)) (λ t l. l) (λ t l. F .small (inverse s (L .b)) (L .c))
+      walked (λ t. t) (λ t. y) (λ t. rw e (omega arith)) (λ t l. l) (λ t l. F .small (elementInverse s (L .b)) (L .c))
       (λ t l. rw (e, zero-left s F t) (quotient s F (L .b) (L .c) positive lb lc)) (λ t u l h. omega arith)
       (xOf s) (λ p l h. x-low s F p) (λ p l h k. refl)
       (λ p l h k. divided s F (L .b) (yOf s p) (L .c) positive lb (y-low s F p l h)
@@ -60,13 +60,13 @@ module _ (s : ℕ) (F : Field s) (L : Line) (la : L .a < 2 ^ s) (lb : L .b < 2 ^
       ∙ held s F L p k))
     where
       y : ℕ
-      y = product s (inverse s (L .b)) (L .c)
+      y = product s (elementInverse s (L .b)) (L .c)
 
       positive : 0 < L .b
       positive = let ne : (L .b ≡ 0 → ⊥) = some e in omega arith
 
   -- where it is not
-  sloped : (L .a ≡ 0 → ⊥) → Passing (holds s L) (points s) (placeOn s (courseOf s L)) (2 ^ s)
+  sloped : (L .a ≡ 0 → ⊥) → Passing (onLine s L) (points s) (placeOn s (courseOf s L)) (2 ^ s)
   unfolding courseOf placeOn
   sloped ne =
       walked x (λ t. t) (λ t. rw (ne-eqb (L .a) 0 ne) (omega arith)) (λ t l. x-small t) (λ t l. l) (λ t l. on t)
@@ -74,20 +74,20 @@ module _ (s : ℕ) (F : Field s) (L : Line) (la : L .a < 2 ^ s) (lb : L .b < 2 ^
       (yOf s) (y-low s F) back (λ p l h k. refl)
     where
       start : ℕ
-      start = product s (inverse s (L .a)) (L .c)
+      start = product s (elementInverse s (L .a)) (L .c)
 
       slope : ℕ
-      slope = product s (inverse s (L .a)) (L .b)
+      slope = product s (elementInverse s (L .a)) (L .b)
 
       x : ℕ → ℕ
       x t = bitXor start (product s slope t)
 
       x-small : (t : ℕ) → x t < 2 ^ s
-      x-small t = xor-lt s start (product s slope t) (F .small (inverse s (L .a)) (L .c)) (F .small slope t)
+      x-small t = xor-lt s start (product s slope t) (F .small (elementInverse s (L .a)) (L .c)) (F .small slope t)
 
       -- x t is (c + b t) / a
-      x-quotient : (t : ℕ) → x t ≡ product s (inverse s (L .a)) (bitXor (L .c) (product s (L .b) t))
-      x-quotient t = ap (bitXor start) (F .assoc (inverse s (L .a)) (L .b) t) ∙ sym (F .dist (inverse s (L .a)) (L .c) (product s (L .b) t))
+      x-quotient : (t : ℕ) → x t ≡ product s (elementInverse s (L .a)) (bitXor (L .c) (product s (L .b) t))
+      x-quotient t = ap (bitXor start) (F .assoc (elementInverse s (L .a)) (L .b) t) ∙ sym (F .dist (elementInverse s (L .a)) (L .c) (product s (L .b) t))
 
       on : (t : ℕ) → bitXor (product s (L .a) (x t)) (product s (L .b) t) ≡ L .c
       on t =
@@ -96,7 +96,7 @@ module _ (s : ℕ) (F : Field s) (L : Line) (la : L .a < 2 ^ s) (lb : L .b < 2 ^
           ∙ quotient s F (L .a) (bitXor (L .c) (product s (L .b) t)) (omega arith) la (xor-lt s (L .c) (product s (L .b) t) lc (F .small (L .b) t)))
           ∙ xor-cancel (L .c) (product s (L .b) t)
 
-      back : (p : ℕ) → 1 ≤ p → p ≤ points s → holds s L p ≡ true → xOf s p ≡ x (yOf s p)
+      back : (p : ℕ) → 1 ≤ p → p ≤ points s → onLine s L p ≡ true → xOf s p ≡ x (yOf s p)
       back p l h k =
           divided s F (L .a) (xOf s p) (bitXor (L .c) (product s (L .b) (yOf s p))) (omega arith) la (x-low s F p)
           (sym (xor-cancel (product s (L .a) (xOf s p)) (product s (L .b) (yOf s p)))
@@ -104,9 +104,9 @@ module _ (s : ℕ) (F : Field s) (L : Line) (la : L .a < 2 ^ s) (lb : L .b < 2 ^
           ∙ sym (x-quotient (yOf s p))
 
   -- the points that the line holds are those at the places 0 to 2^s − 1
-  pub along : Passing (holds s L) (points s) (placeOn s (courseOf s L)) (2 ^ s)
+  pub along : Passing (onLine s L) (points s) (placeOn s (courseOf s L)) (2 ^ s)
   along = go (eqb (L .a) 0) refl
     where
-      go : (t : Bool) → eqb (L .a) 0 ≡ t → Passing (holds s L) (points s) (placeOn s (courseOf s L)) (2 ^ s)
+      go : (t : Bool) → eqb (L .a) 0 ≡ t → Passing (onLine s L) (points s) (placeOn s (courseOf s L)) (2 ^ s)
       go true e = level (eqb-true (L .a) 0 e)
       go false e = sloped (eqb-false (L .a) 0 e)

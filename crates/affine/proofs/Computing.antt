@@ -5,7 +5,7 @@ use Rattle.incidence.proofs.Booleans.{and-left, and-right, or-cases}
 use Rattle.incidence.proofs.Counting.{every, every-at}
 use Rattle.affine.specs.Lines.{points}
 use Rattle.affine.specs.Affine.{sized}
-use Rattle.affine.specs.Field.{offered, polynomial, timesX, productBy, product, power, inverse}
+use Rattle.affine.specs.Field.{offered, polynomial, elementTimesX, productOver, product, elementPower, elementInverse}
 
 -- what holds for 2 and for 3 holds wherever a field is offered
 pub of-both : (P : ℕ → Type 0) → P 2 → P 3 → (s : ℕ) → offered s ≡ true → P s
@@ -29,19 +29,19 @@ points-few = of-both (λ s. (16 ≤ 2 ^ s * 2 ^ s) × (2 ^ s * 2 ^ s ≤ 64)) (o
 
 -- an element times x is an element
 timesTest : ℕ → Bool
-timesTest s = every (λ a. ltb (timesX s a) (2 ^ s)) (2 ^ s)
+timesTest s = every (λ a. ltb (elementTimesX s a) (2 ^ s)) (2 ^ s)
 
 -- a product, as a sum of three
 sumOfThree : ℕ → ℕ → ℕ → ℕ
-sumOfThree s a b = bitXor (bitXor (b % 2 * a) (b / 2 % 2 * timesX s a)) (b / 4 * timesX s (timesX s a))
+sumOfThree s a b = bitXor (bitXor (b % 2 * a) (b / 2 % 2 * elementTimesX s a)) (b / 4 * elementTimesX s (elementTimesX s a))
 
 productTest : ℕ → Bool
-productTest s = every (λ a. every (λ b. eqb (sumOfThree s a b) (productBy s s a b)) (2 ^ s)) (2 ^ s)
+productTest s = every (λ a. every (λ b. eqb (sumOfThree s a b) (productOver s s a b)) (2 ^ s)) (2 ^ s)
 
 -- an inverse, by squares
 inverseTest : ℕ → Bool
 inverseTest s =
-    every (λ a. eqb (if eqb s 2 then product s a a else product s (product s a a) (product s (product s a a) (product s a a))) (inverse s a)) (2 ^ s)
+    every (λ a. eqb (if eqb s 2 then product s a a else product s (product s a a) (product s (product s a a) (product s a a))) (elementInverse s a)) (2 ^ s)
 
 record Tests (s : ℕ) : Type 0 where
   timesx : timesTest s ≡ true
@@ -49,31 +49,31 @@ record Tests (s : ℕ) : Type 0 where
   inverses : inverseTest s ≡ true
 
 tested : (s : ℕ) → offered s ≡ true → Tests s
-unfolding timesTest sumOfThree productTest inverseTest polynomial timesX productBy product power inverse
+unfolding timesTest sumOfThree productTest inverseTest polynomial elementTimesX productOver product elementPower elementInverse
 tested = of-both Tests (record { timesx = refl; products = refl; inverses = refl }) (record { timesx = refl; products = refl; inverses = refl })
 
 -- ---- what they say
 
 module _ (s : ℕ) (field : offered s ≡ true) where
-  pub times-small : (a : ℕ) → a < 2 ^ s → timesX s a < 2 ^ s
+  pub times-small : (a : ℕ) → a < 2 ^ s → elementTimesX s a < 2 ^ s
   unfolding timesTest
-  times-small a h = ltb-true _ _ (every-at (λ a. ltb (timesX s a) (2 ^ s)) (2 ^ s) (tested s field .timesx) a h)
+  times-small a h = ltb-true _ _ (every-at (λ a. ltb (elementTimesX s a) (2 ^ s)) (2 ^ s) (tested s field .timesx) a h)
 
   pub product-is : (a b : ℕ) → a < 2 ^ s → b < 2 ^ s
-      → bitXor (bitXor (b % 2 * a) (b / 2 % 2 * timesX s a)) (b / 4 * timesX s (timesX s a)) ≡ productBy s s a b
+      → bitXor (bitXor (b % 2 * a) (b / 2 % 2 * elementTimesX s a)) (b / 4 * elementTimesX s (elementTimesX s a)) ≡ productOver s s a b
   unfolding productTest sumOfThree
   product-is a b la lb =
-      eqb-true _ _ (every-at _ (2 ^ s) (every-at (λ a. every (λ b. eqb (sumOfThree s a b) (productBy s s a b)) (2 ^ s)) (2 ^ s) (tested s field .products) a la) b lb)
+      eqb-true _ _ (every-at _ (2 ^ s) (every-at (λ a. every (λ b. eqb (sumOfThree s a b) (productOver s s a b)) (2 ^ s)) (2 ^ s) (tested s field .products) a la) b lb)
 
   inverse-is : (a : ℕ) → a < 2 ^ s
-      → (if eqb s 2 then product s a a else product s (product s a a) (product s (product s a a) (product s a a))) ≡ inverse s a
+      → (if eqb s 2 then product s a a else product s (product s a a) (product s (product s a a) (product s a a))) ≡ elementInverse s a
   unfolding inverseTest
   inverse-is a h = eqb-true _ _ (every-at _ (2 ^ s) (tested s field .inverses) a h)
 
-  pub inverse-two : (a : ℕ) → a < 2 ^ s → s ≡ 2 → product s a a ≡ inverse s a
+  pub inverse-two : (a : ℕ) → a < 2 ^ s → s ≡ 2 → product s a a ≡ elementInverse s a
   inverse-two a h e = rw (eq-eqb s 2 e) at (inverse-is a h)
 
-  pub inverse-three : (a : ℕ) → a < 2 ^ s → (s ≡ 2 → ⊥) → product s (product s a a) (product s (product s a a) (product s a a)) ≡ inverse s a
+  pub inverse-three : (a : ℕ) → a < 2 ^ s → (s ≡ 2 → ⊥) → product s (product s a a) (product s (product s a a) (product s a a)) ≡ elementInverse s a
   inverse-three a h e = rw (ne-eqb s 2 e) at (inverse-is a h)
 
   pub reduced-low : (a : ℕ) → a % 2 ^ s < 2 ^ s

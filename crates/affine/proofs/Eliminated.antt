@@ -6,10 +6,10 @@ use Rattle.blocks.proofs.Loop.{map-at}
 use Rattle.incidence.specs.Count.{listed}
 use Rattle.incidence.proofs.Listing.{listed-length}
 use Rattle.affine.specs.declared.Course.{Course}
-use Rattle.affine.specs.Lines.{points, holds, cards, lineOf, isRow, pointOf}
+use Rattle.affine.specs.Lines.{points, onLine, affineItems, lineOf, isRow, pointOf}
 use Rattle.affine.specs.Elimination.{setOf, Remainder, next, remainders}
-use Rattle.affine.specs.Affine.{sized, rowCount, cardsAt, eliminated}
-use Rattle.affine.specs.Walk.{firsts, courseOf, placeOn, chosenAt, dual, itemCount, itemAt}
+use Rattle.affine.specs.Affine.{sized, rowCount, itemsAt, eliminated}
+use Rattle.affine.specs.Walk.{firsts, courseOf, placeOn, chosenAt, dual, throughCount, throughAt}
 use Rattle.affine.proofs.Listings.{passing, passing-is}
 use Rattle.affine.proofs.Walks.{items-through, point-low, point-high, point-row}
 
@@ -51,7 +51,7 @@ unfoldable pub cardAlong : ℕ → ℕ → ℕ → Course → ℕ → ℕ
 cardAlong s l p C k = if eqb p 1 then k + 1 else (if eqb k 0 then chosenAt s p else l + placeOn s C (k - 1) - 1)
 
 unfoldable pub rowSet : ℕ → ℕ → ℕ → ℕ
-rowSet s l p = setUp (cardAlong s l p (courseOf s (dual s p))) (itemCount s l p)
+rowSet s l p = setUp (cardAlong s l p (courseOf s (dual s p))) (throughCount s l p)
 
 -- ---- the rows gone through once
 
@@ -77,21 +77,21 @@ gone-through m row (x ∷ xs) n h =
     last = omega arith
 
 unfoldable pub quickly : ℕ → ℕ → List Remainder
-quickly s l = goThrough (cards s l) [] 1 (map (rowSet s l) (passing (isRow s l) 1 (points s)))
+quickly s l = goThrough (affineItems s l) [] 1 (map (rowSet s l) (passing (isRow s l) 1 (points s)))
 
 module _ (s l : ℕ) (size : sized s l ≡ true) where
-  row-set : (p : ℕ) → 1 ≤ p → p ≤ points s → isRow s l p ≡ true → rowSet s l p ≡ cardsAt s l p
-  unfolding rowSet cardAlong itemAt cardsAt
+  row-set : (p : ℕ) → 1 ≤ p → p ≤ points s → isRow s l p ≡ true → rowSet s l p ≡ itemsAt s l p
+  unfolding rowSet cardAlong throughAt itemsAt
   row-set p low high row =
-      sym (setUp-firsts (itemAt s l p) (itemCount s l p))
+      sym (setUp-firsts (throughAt s l p) (throughCount s l p))
       ∙ ap setAll (sym (items-through s l size p low high row))
-      ∙ sym (setOf-listed (λ j. holds s (lineOf s l j) p) (cards s l))
+      ∙ sym (setOf-listed (λ j. onLine s (lineOf s l j) p) (affineItems s l))
 
   pub quickly-is : quickly s l ≡ eliminated s l
   unfolding quickly eliminated remainders rowCount pointOf
   quickly-is =
-      gone-through (cards s l) (λ i. cardsAt s l (pointOf s l i)) sets 0 same
-      ∙ ap (remainders (cards s l) (λ i. cardsAt s l (pointOf s l i))) count
+      gone-through (affineItems s l) (λ i. itemsAt s l (pointOf s l i)) sets 0 same
+      ∙ ap (remainders (affineItems s l) (λ i. itemsAt s l (pointOf s l i))) count
     where
       pts : List ℕ
       pts = passing (isRow s l) 1 (points s)
@@ -105,7 +105,7 @@ module _ (s l : ℕ) (size : sized s l ≡ true) where
       count : 0 + length sets ≡ rowCount s l
       count = omega (arith, length-map pts (rowSet s l), long)
 
-      same : (k : ℕ) → k < length sets → getD sets k 0 ≡ cardsAt s l (pointOf s l (suc (0 + k)))
+      same : (k : ℕ) → k < length sets → getD sets k 0 ≡ itemsAt s l (pointOf s l (suc (0 + k)))
       same k u =
           let e : suc (0 + k) - 1 ≡ k = omega arith in
           let few : suc (0 + k) ≤ rowCount s l = omega (arith, count) in

@@ -5,7 +5,7 @@ use Rattle.fips197.proofs.Xor.{xor-cancel}
 use native.Mathlib.Nat.{mod-mod}
 use Rattle.incidence.proofs.Booleans.{or-cases}
 use Rattle.incidence.proofs.Counting.{every, every-at}
-use Rattle.affine.specs.Field.{polynomial, timesX, productBy, product, power, inverse}
+use Rattle.affine.specs.Field.{polynomial, elementTimesX, productOver, product, elementPower, elementInverse}
 
 -- the laws of a field in which the sum is bitXor
 pub record Field (s : ℕ) : Type 0 where
@@ -15,7 +15,7 @@ pub record Field (s : ℕ) : Type 0 where
   pub assoc : (a b c : ℕ) → product s (product s a b) c ≡ product s a (product s b c)
   pub dist : (a b c : ℕ) → product s a (bitXor b c) ≡ bitXor (product s a b) (product s a c)
   pub one : (a : ℕ) → a < 2 ^ s → product s 1 a ≡ a
-  pub inv : (a : ℕ) → 0 < a → a < 2 ^ s → product s a (inverse s a) ≡ 1
+  pub inv : (a : ℕ) → 0 < a → a < 2 ^ s → product s a (elementInverse s a) ≡ 1
 
 -- ---- the tests
 
@@ -44,7 +44,7 @@ module _ (s : ℕ) where
   oneTest a = eqb (product s 1 a) a
 
   abbrev invTest : ℕ → Bool
-  invTest a = eqb (product s (suc a) (inverse s (suc a))) 1
+  invTest a = eqb (product s (suc a) (elementInverse s (suc a))) 1
 
 -- each law, tested over the elements
 record Tests (s : ℕ) : Type 0 where
@@ -58,11 +58,11 @@ record Tests (s : ℕ) : Type 0 where
 
 -- computed for both fields
 tests2 : Tests 2
-unfolding polynomial timesX productBy product power inverse
+unfolding polynomial elementTimesX productOver product elementPower elementInverse
 tests2 = record { some = lit< tt; smalls = refl; comms = refl; assocs = refl; dists = refl; ones = refl; invs = refl }
 
 tests3 : Tests 3
-unfolding polynomial timesX productBy product power inverse
+unfolding polynomial elementTimesX productOver product elementPower elementInverse
 tests3 = record { some = lit< tt; smalls = refl; comms = refl; assocs = refl; dists = refl; ones = refl; invs = refl }
 
 -- ---- what they say of every number
@@ -114,7 +114,7 @@ module _ (s : ℕ) (T : Tests s) where
       ∙ eqb-true _ _ (at3 (distTest s) (T .dists) a b c)
       ∙ ap₂ bitXor (both a b) (both a c)
 
-  is-inv : (a : ℕ) → 0 < a → a < 2 ^ s → product s a (inverse s a) ≡ 1
+  is-inv : (a : ℕ) → 0 < a → a < 2 ^ s → product s a (elementInverse s a) ≡ 1
   is-inv zero l u = absurd (omega arith)
   is-inv (suc a) l u = eqb-true _ _ (every-at (invTest s) (2 ^ s - 1) (T .invs) a (omega arith))
 
@@ -160,7 +160,7 @@ module _ (s : ℕ) (F : Field s) where
 
   -- a factor other than 0 can be taken away
   pub cancel : (a b u : ℕ) → a < 2 ^ s → b < 2 ^ s → 0 < u → u < 2 ^ s → product s a u ≡ product s b u → a ≡ b
-  cancel a b u la lb l h e = sym (back a la) ∙ ap (λ (z : ℕ). product s z (inverse s u)) e ∙ back b lb
+  cancel a b u la lb l h e = sym (back a la) ∙ ap (λ (z : ℕ). product s z (elementInverse s u)) e ∙ back b lb
     where
-      back : (c : ℕ) → c < 2 ^ s → product s (product s c u) (inverse s u) ≡ c
-      back c lc = F .assoc c u (inverse s u) ∙ ap (product s c) (F .inv u l h) ∙ one-right c lc
+      back : (c : ℕ) → c < 2 ^ s → product s (product s c u) (elementInverse s u) ≡ c
+      back c lc = F .assoc c u (elementInverse s u) ∙ ap (product s c) (F .inv u l h) ∙ one-right c lc

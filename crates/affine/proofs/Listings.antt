@@ -111,11 +111,6 @@ module _ {f : ℕ → Bool} {n : ℕ} {g : ℕ → ℕ} {k : ℕ} (P : Passing f
 
 -- ---- short lists
 
--- where none passes, none is listed
-pub none-listed : (p : ℕ → Bool) (n : ℕ) → ((i : ℕ) → p i ≡ false) → listed p n ≡ []
-none-listed p zero h = refl
-none-listed p (suc n) h = rw (h (suc n)) (none-listed p n h)
-
 -- the first n numbers are n
 pub firsts-length : (g : ℕ → ℕ) (n : ℕ) → length (firsts g n) ≡ n
 unfolding firsts

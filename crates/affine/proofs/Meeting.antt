@@ -4,9 +4,9 @@ use Rattle.fips197.proofs.Kit.{_≡_, refl, sym, ap, ap₂, _∙_, Bool, true, 
 use Rattle.fips197.proofs.Xor.{xor-cancel, sums}
 use native.Mathlib.Nat.{mul-add-div-right, mul-add-mod-self-right, div-eq-of-lt, mul-le-mul-right}
 use Rattle.blocks.specs.Block.{if_then_else_}
-use Rattle.affine.specs.Field.{product, inverse}
+use Rattle.affine.specs.Field.{product, elementInverse}
 use Rattle.affine.specs.declared.Line.{Line}
-use Rattle.affine.specs.Lines.{points, xOf, yOf, holds, chosen, crossing, cards, lineOf}
+use Rattle.affine.specs.Lines.{points, xOf, yOf, onLine, chosen, crossing, affineItems, lineOf}
 use Rattle.affine.proofs.FieldLaws.{Field, xor-same, dist-left, one-right, zero-right, cancel}
 
 -- what stands on one side of an equation of sums can be taken to the other
@@ -112,17 +112,17 @@ module _ (s : ℕ) (F : Field s) where
   -- ---- lines
 
   -- what a line says of a point that it holds
-  pub held : (L : Line) (p : ℕ) → holds s L p ≡ true → bitXor (product s (L .a) (xOf s p)) (product s (L .b) (yOf s p)) ≡ L .c
-  unfolding holds
+  pub held : (L : Line) (p : ℕ) → onLine s L p ≡ true → bitXor (product s (L .a) (xOf s p)) (product s (L .b) (yOf s p)) ≡ L .c
+  unfolding onLine
   held L p h = eqb-true _ _ h
 
   -- it holds the points of which that is so
-  pub holds-spot : (L : Line) (x y : ℕ) → x < 2 ^ s → bitXor (product s (L .a) x) (product s (L .b) y) ≡ L .c → holds s L (spot s x y) ≡ true
-  unfolding holds
+  pub holds-spot : (L : Line) (x y : ℕ) → x < 2 ^ s → bitXor (product s (L .a) x) (product s (L .b) y) ≡ L .c → onLine s L (spot s x y) ≡ true
+  unfolding onLine
   holds-spot L x y u h = rw (spot-x x y u, spot-y x y u) (eq-eqb _ _ h)
 
   -- a line's direction is that from one of its points to another
-  direction : (L : Line) (p r : ℕ) → holds s L p ≡ true → holds s L r ≡ true
+  direction : (L : Line) (p r : ℕ) → onLine s L p ≡ true → onLine s L r ≡ true
       → product s (L .a) (bitXor (xOf s p) (xOf s r)) ≡ product s (L .b) (bitXor (yOf s p) (yOf s r))
   direction L p r h k =
       F .dist (L .a) (xOf s p) (xOf s r)
@@ -142,7 +142,7 @@ module _ (s : ℕ) (F : Field s) where
 
   -- lines that share two points are
   multiple : (L M : Line) (p r : ℕ) → 1 ≤ p → p ≤ points s → 1 ≤ r → r ≤ points s → (p ≡ r → ⊥)
-      → holds s L p ≡ true → holds s M p ≡ true → holds s L r ≡ true → holds s M r ≡ true → Multiple L M
+      → onLine s L p ≡ true → onLine s M p ≡ true → onLine s L r ≡ true → onLine s M r ≡ true → Multiple L M
   multiple L M p r lp up lr ur ne hl hm kl km = record {
     ab = along;
     bc = minor (L .a) (L .b) (L .c) (M .a) (M .b) (M .c) (xOf s p) (yOf s p) (held L p hl) (held M p hm) along;
@@ -157,7 +157,7 @@ module _ (s : ℕ) (F : Field s) where
           (λ ex ey. ne (same-point p r lp lr (xor-same (xOf s p) (xOf s r) ex) (xor-same (yOf s p) (yOf s r) ey)))
           (direction L p r hl kl) (direction M p r hm km)
 
-      other : (N : Line) → holds s N p ≡ true → bitXor (product s (N .b) (yOf s p)) (product s (N .a) (xOf s p)) ≡ N .c
+      other : (N : Line) → onLine s N p ≡ true → bitXor (product s (N .b) (yOf s p)) (product s (N .a) (xOf s p)) ≡ N .c
       other N h = xor-comm (product s (N .b) (yOf s p)) (product s (N .a) (xOf s p)) ∙ held N p h
 
   -- a line ax + by = c of elements, a and b not both 0
@@ -253,8 +253,8 @@ module _ (s : ℕ) (F : Field s) where
 
   module _ (l : ℕ) (most : l ≤ 2 ^ s + 1) where
     -- cards whose lines are the same but for a factor are the same
-    same-card : (j k : ℕ) → 1 ≤ j → j ≤ cards s l → 1 ≤ k → k ≤ cards s l → Multiple (lineOf s l j) (lineOf s l k) → j ≡ k
-    unfolding cards crossing
+    same-card : (j k : ℕ) → 1 ≤ j → j ≤ affineItems s l → 1 ≤ k → k ≤ affineItems s l → Multiple (lineOf s l j) (lineOf s l k) → j ≡ k
+    unfolding affineItems crossing
     same-card j k lj uj lk uk m = go (leb j l) refl (leb k l) refl
       where
         go : (t : Bool) → leb j l ≡ t → (r : Bool) → leb k l ≡ r → j ≡ k
@@ -274,10 +274,10 @@ module _ (s : ℕ) (F : Field s) where
             omega arith
 
     -- two different cards share at most one point
-    pub share-one-point : (j k : ℕ) → 1 ≤ j → j ≤ cards s l → 1 ≤ k → k ≤ cards s l → (k ≡ j → ⊥)
+    pub share-one-point : (j k : ℕ) → 1 ≤ j → j ≤ affineItems s l → 1 ≤ k → k ≤ affineItems s l → (k ≡ j → ⊥)
         → (p r : ℕ) → 1 ≤ p → p ≤ points s → 1 ≤ r → r ≤ points s
-        → holds s (lineOf s l j) p ≡ true → holds s (lineOf s l k) p ≡ true
-        → holds s (lineOf s l j) r ≡ true → holds s (lineOf s l k) r ≡ true → p ≡ r
+        → onLine s (lineOf s l j) p ≡ true → onLine s (lineOf s l k) p ≡ true
+        → onLine s (lineOf s l j) r ≡ true → onLine s (lineOf s l k) r ≡ true → p ≡ r
     share-one-point j k lj uj lk uk ne p r lp up lr ur hj hk gj gk = go (eqb p r) refl
       where
         go : (t : Bool) → eqb p r ≡ t → p ≡ r
@@ -293,7 +293,7 @@ module _ (s : ℕ) (F : Field s) where
   point-high L t = spot-high (product s (L .b) t) (product s (L .a) t) (F .small (L .b) t) (F .small (L .a) t)
 
   -- a chosen line holds its points
-  pub chosen-holds : (k t : ℕ) → holds s (chosen s k) (pointAt s (chosen s k) t) ≡ true
+  pub chosen-holds : (k t : ℕ) → onLine s (chosen s k) (pointAt s (chosen s k) t) ≡ true
   chosen-holds k t =
       holds-spot (chosen s k) (product s b t) (product s a t) (F .small b t)
       (ap (λ (w : ℕ). bitXor w (product s b (product s a t))) (turn a b t) ∙ xor-self (product s b (product s a t)) ∙ sym (chosen-through k))
@@ -349,7 +349,7 @@ module _ (s : ℕ) (F : Field s) where
 
   -- it meets each of the others
   pub meets : (n : ℕ) (M : Line) → (across s (crossing s n) M ≡ 0 → ⊥)
-      → holds s (crossing s n) (pointAt s M (inverse s (across s (crossing s n) M))) ≡ true
+      → onLine s (crossing s n) (pointAt s M (elementInverse s (across s (crossing s n) M))) ≡ true
   meets n M ne =
       holds-spot (crossing s n) (product s (M .b) t) (product s (M .a) t) (F .small (M .b) t)
       (ap₂ bitXor (sym (F .assoc a (M .b) t)) (sym (F .assoc b (M .a) t))
@@ -364,17 +364,17 @@ module _ (s : ℕ) (F : Field s) where
       b = crossing s n .b
 
       t : ℕ
-      t = inverse s (across s (crossing s n) M)
+      t = elementInverse s (across s (crossing s n) M)
 
   -- and no two of them at one point
   pub one-meets : (n k i p : ℕ) → 1 ≤ k → k ≤ 2 ^ s + 1 → 1 ≤ i → i ≤ 2 ^ s + 1 → 1 ≤ p → p ≤ points s
-      → holds s (crossing s n) p ≡ true → holds s (chosen s k) p ≡ true → holds s (chosen s i) p ≡ true → k ≡ i
+      → onLine s (crossing s n) p ≡ true → onLine s (chosen s k) p ≡ true → onLine s (chosen s i) p ≡ true → k ≡ i
   one-meets n k i p lk uk li ui lp up h hk hi =
       same-chosen k i lk uk li ui
       (parallel (chosen s k .a) (chosen s k .b) (chosen s i .a) (chosen s i .b) (xOf s p) (yOf s p) (x-low p) (y-low p lp up) origin
       (even k hk) (even i hi))
     where
-      even : (m : ℕ) → holds s (chosen s m) p ≡ true → product s (chosen s m .a) (xOf s p) ≡ product s (chosen s m .b) (yOf s p)
+      even : (m : ℕ) → onLine s (chosen s m) p ≡ true → product s (chosen s m .a) (xOf s p) ≡ product s (chosen s m .b) (yOf s p)
       even m g =
           xor-same (product s (chosen s m .a) (xOf s p)) (product s (chosen s m .b) (yOf s p)) (held (chosen s m) p g ∙ chosen-through m)
 

@@ -1,16 +1,16 @@
 -- What the walks' steps rest on: a place of a course is a point, a number written behind others is the next of the list, and a row that
 -- there is not has no tag and is made of none.
-use Rattle.fips197.proofs.Kit.{_≡_, refl, sym, ap, _∙_, subst, Bool, true, false, List, [], _∷_, _++_, ℕ, zero, suc, _+_, _*_, _^_, _≤_, _<_, _⊎_, inl, inr, arith, add-one, eqb, length, getD, set, drop, length-append, List·getD-append, getD-at, eq-eqb, ne-eqb, xor-lt, bitXor}
+use Rattle.fips197.proofs.Kit.{_≡_, refl, sym, ap, _∙_, Bool, true, false, List, [], _∷_, _++_, ℕ, zero, suc, _+_, _*_, _^_, _≤_, _<_, _⊎_, inl, inr, arith, add-one, eqb, length, getD, set, drop, length-append, List·getD-append, getD-at, eq-eqb, ne-eqb, xor-lt, bitXor}
 use Rattle.blocks.specs.Block.{if_then_else_}
 use Rattle.incidence.specs.Count.{inside}
 use Rattle.incidence.proofs.Booleans.{and-false-l}
 use Rattle.incidence.proofs.Counting.{last-or, inside-low, inside-high}
 use Rattle.affine.specs.declared.Line.{Line}
 use Rattle.affine.specs.declared.Course.{Course}
-use Rattle.affine.specs.Field.{offered, product, inverse}
+use Rattle.affine.specs.Field.{offered, product, elementInverse}
 use Rattle.affine.specs.Lines.{points}
-use Rattle.affine.specs.Affine.{sized, rowCount, tagged, affine}
-use Rattle.affine.specs.Walk.{firsts, courseOf, placeOn, rowAt, rowsMet, itemCount}
+use Rattle.affine.specs.Affine.{sized, rowCount, isTagged, affineFamily}
+use Rattle.affine.specs.Walk.{firsts, courseOf, placeOn, rowAt, rowsMet, throughCount}
 use Rattle.affine.proofs.FieldLaws.{Field, field}
 use Rattle.affine.proofs.Computing.{points-few, elements-few, sized-offered, sized-high}
 use Rattle.affine.proofs.Meeting.{spot-high}
@@ -31,12 +31,12 @@ module _ (s : ℕ) (here : offered s ≡ true) where
     where
       pick : Bool → Course
       pick b =
-          if b then record { level = true; start = product s (inverse s (L .b)) (L .c); slope = 0 } else
-          record { level = false; start = product s (inverse s (L .a)) (L .c); slope = product s (inverse s (L .a)) (L .b) }
+          if b then record { level = true; start = product s (elementInverse s (L .b)) (L .c); slope = 0 } else
+          record { level = false; start = product s (elementInverse s (L .a)) (L .c); slope = product s (elementInverse s (L .a)) (L .b) }
 
       go : (b : Bool) → pick b .start < 2 ^ s
-      go true = product-low (inverse s (L .b)) (L .c)
-      go false = product-low (inverse s (L .a)) (L .c)
+      go true = product-low (elementInverse s (L .b)) (L .c)
+      go false = product-low (elementInverse s (L .a)) (L .c)
 
   module _ (C : Course) (t : ℕ) (low : C .start < 2 ^ s) (few : t < 2 ^ s) where
     pub level-place : C .start * 2 ^ s + t + 1 ≤ points s
@@ -107,8 +107,8 @@ module _ (s l : ℕ) (C : Course) where
 
 -- ---- numbers of cards
 
-pub count-few : (s l p : ℕ) → sized s l ≡ true → itemCount s l p ≤ 9
-unfolding itemCount
+pub count-few : (s l p : ℕ) → sized s l ≡ true → throughCount s l p ≤ 9
+unfolding throughCount
 count-few s l p size = go (eqb p 1)
   where
     go : (b : Bool) → (if b then l else 2 ^ s + 1) ≤ 9
@@ -118,35 +118,22 @@ count-few s l p size = go (eqb p 1)
 -- ---- no such row
 
 module _ (s l i : ℕ) (out : inside (rowCount s l) i ≡ false) where
-  none : tagged s l i ≡ false
-  unfolding tagged
+  none : isTagged s l i ≡ false
+  unfolding isTagged
   none = and-false-l (inside (rowCount s l) i) _ out
 
-  pub tag-out : affine s l .tagOfRow i ≡ 0
-  unfolding affine
+  pub tag-out : affineFamily s l .tagOfRow i ≡ 0
+  unfolding affineFamily
   tag-out = rw none
 
-  pub made-out : affine s l .made i ≡ []
-  unfolding affine
+  pub made-out : affineFamily s l .made i ≡ []
+  unfolding affineFamily
   made-out = rw out
 
--- ---- the code's tests
-
-pub inside-of : {m n : ℕ} {r b : Bool} (i : ℕ) → m ≡ n → r ≡ inside m i → r ≡ b → inside n i ≡ b
-inside-of i e f g = ap (λ (x : ℕ). inside x i) (sym e) ∙ sym f ∙ g
-
 -- a row that is made of others is one
-pub made-somewhere : (s l i : ℕ) → 0 < length (affine s l .made i) → (1 ≤ i) × (i ≤ rowCount s l)
+pub made-somewhere : (s l i : ℕ) → 0 < length (affineFamily s l .made i) → (1 ≤ i) × (i ≤ rowCount s l)
 made-somewhere s l i h = go (inside (rowCount s l) i) refl
   where
     go : (b : Bool) → inside (rowCount s l) i ≡ b → (1 ≤ i) × (i ≤ rowCount s l)
     go true e = (inside-low (rowCount s l) i e, inside-high (rowCount s l) i e)
     go false e = absurd (omega (arith, ap length (made-out s l i e)))
-
--- what a walk leaves in a buffer, by another name of the list or for none
-pub written-as : (o : List ℕ) {l w out : List ℕ} {n : ℕ} → w ≡ l → (out ≡ w ++ drop (length w) o) × (n ≡ length w)
-    → (out ≡ l ++ drop (length l) o) × (n ≡ length l)
-written-as o {l} {w} {out} {n} e h = subst (λ (x : List ℕ). (out ≡ x ++ drop (length x) o) × (n ≡ length x)) e h
-
-pub written-none : (o : List ℕ) {l : List ℕ} → l ≡ [] → (o ≡ l ++ drop (length l) o) × (0 ≡ length l)
-written-none o e = written-as o (sym e) (refl, refl)

@@ -6,10 +6,10 @@ use Rattle.incidence.specs.Count.{indicator, countUpTo, listed}
 use Rattle.incidence.proofs.Booleans.{and-left, and-right}
 use Rattle.incidence.proofs.Counting.{every, every-at, count-most, inside-yes}
 use Rattle.incidence.proofs.Listing.{listed-length}
-use Rattle.affine.specs.Field.{polynomial, timesX, productBy, product, power, inverse}
-use Rattle.affine.specs.Lines.{points, xOf, yOf, holds, chosen, cards, isRow, pointOf}
-use Rattle.affine.specs.Affine.{sized, rowCount, cardsAt, eliminated, remainder, tagged, affine}
-use Rattle.affine.specs.Walk.{courseOf, placeOn, chosenAt, dual, itemCount, rowAt, sizeIndex, rowRecord, entryOf, wideEntryOf}
+use Rattle.affine.specs.Field.{polynomial, elementTimesX, productOver, product, elementPower, elementInverse}
+use Rattle.affine.specs.Lines.{points, xOf, yOf, onLine, chosen, affineItems, isRow, pointOf}
+use Rattle.affine.specs.Affine.{sized, rowCount, itemsAt, eliminated, remainder, isTagged, affineFamily}
+use Rattle.affine.specs.Walk.{courseOf, placeOn, chosenAt, dual, throughCount, rowAt, sizeIndex, rowRecord, entryOf, wideEntryOf}
 use Rattle.affine.specs.Elimination.{has, greatest, Remainder, nothing, add, reduced, reducedBy, remainderOf, next}
 use Rattle.affine.proofs.Tagging.{tagged-yes, tagged-no, made-is, made-none, tag-of, tag-none}
 use Rattle.affine.proofs.Listings.{passing, passing-is}
@@ -108,7 +108,7 @@ countTest : ℕ → ℕ → Bool
 countTest s l = eqb (rowCount s l) (l * (2 ^ s - 1) + 1)
 
 counts-tested : sizesTest countTest ≡ true
-unfolding countTest rowCount points xOf yOf holds chosen isRow polynomial timesX productBy product
+unfolding countTest rowCount points xOf yOf onLine chosen isRow polynomial elementTimesX productOver product
 counts-tested = refl
 
 module _ (s l : ℕ) (size : sized s l ≡ true) where
@@ -203,7 +203,7 @@ recordsTest S T = sizesTest (recordsPart S T)
 module _ (s l : ℕ) where
   -- each is the record of its row
   records-at : (us : List Remainder) (i k : ℕ) → ((n : ℕ) → n < length us → getD us n nothing ≡ remainder s l (suc (i + n))) → i + length us ≤ rowCount s l
-      → k < length us → getD (recordsFrom i (countUpTo (tagged s l) i) us) k [] ≡ rowRecord s l (suc (i + k))
+      → k < length us → getD (recordsFrom i (countUpTo (isTagged s l) i) us) k [] ≡ rowRecord s l (suc (i + k))
   unfolding recordsFrom rowRecord
   records-at [] i k same few u = absurd (omega arith)
   records-at (w ∷ us) i k same few u = go (λ n h. records-at us (suc i) n rest (omega arith) h) (eqb (w .last) 0) refl k u
@@ -224,42 +224,42 @@ module _ (s l : ℕ) where
       left = passing (λ a. has a (w .left .rows)) 1 i
 
       before : ℕ
-      before = countUpTo (tagged s l) i
+      before = countUpTo (isTagged s l) i
 
       -- of a row without a tag, and of a tagged one
-      no : eqb (w .last) 0 ≡ true → tagged s l (suc i) ≡ false
+      no : eqb (w .last) 0 ≡ true → isTagged s l (suc i) ≡ false
       no e = tagged-no s l (suc i) li ui (ap (λ (x : Remainder). x .last) (sym this) ∙ eqb-true (w .last) 0 e)
 
-      yes : eqb (w .last) 0 ≡ false → tagged s l (suc i) ≡ true
+      yes : eqb (w .last) 0 ≡ false → isTagged s l (suc i) ≡ true
       yes e = tagged-yes s l (suc i) li ui (λ z. eqb-false (w .last) 0 e (ap (λ (x : Remainder). x .last) this ∙ z))
 
-      made : eqb (w .last) 0 ≡ true → left ≡ affine s l .made (suc i)
+      made : eqb (w .last) 0 ≡ true → left ≡ affineFamily s l .made (suc i)
       made e =
           let z : i ≡ suc i - 1 = omega arith in
           passing-is (λ a. has a (w .left .rows)) i
           ∙ ap₂ (λ (u : Remainder) (n : ℕ). listed (λ a. has a (u .left .rows)) n) this z
           ∙ sym (made-is s l (suc i) li ui (no e))
 
-      untagged : eqb (w .last) 0 ≡ true → 0 ∷ counted left ≡ affine s l .tagOfRow (suc i) ∷ counted (affine s l .made (suc i))
+      untagged : eqb (w .last) 0 ≡ true → 0 ∷ counted left ≡ affineFamily s l .tagOfRow (suc i) ∷ counted (affineFamily s l .made (suc i))
       untagged e = ap₂ (λ (t : ℕ) (m : List ℕ). t ∷ counted m) (sym (tag-none s l (suc i) li ui (no e))) (made e)
 
-      tagged-one : eqb (w .last) 0 ≡ false → suc before ∷ 0 ∷ [] ≡ affine s l .tagOfRow (suc i) ∷ counted (affine s l .made (suc i))
+      tagged-one : eqb (w .last) 0 ≡ false → suc before ∷ 0 ∷ [] ≡ affineFamily s l .tagOfRow (suc i) ∷ counted (affineFamily s l .made (suc i))
       tagged-one e =
-          let n : suc before ≡ countUpTo (tagged s l) (suc i) = omega (arith, ap indicator (yes e)) in
+          let n : suc before ≡ countUpTo (isTagged s l) (suc i) = omega (arith, ap indicator (yes e)) in
           ap₂ (λ (t : ℕ) (m : List ℕ). t ∷ counted m) (n ∙ sym (tag-of s l (suc i) li ui (yes e))) (sym (made-none s l (suc i) li ui (yes e)))
 
-      here : {r : List ℕ} → r ≡ affine s l .tagOfRow (suc i) ∷ counted (affine s l .made (suc i))
-          → r ≡ affine s l .tagOfRow (suc (i + 0)) ∷ counted (affine s l .made (suc (i + 0)))
-      here e = e ∙ ap (λ (x : ℕ). affine s l .tagOfRow (suc x) ∷ counted (affine s l .made (suc x))) (sym (add-zero i))
+      here : {r : List ℕ} → r ≡ affineFamily s l .tagOfRow (suc i) ∷ counted (affineFamily s l .made (suc i))
+          → r ≡ affineFamily s l .tagOfRow (suc (i + 0)) ∷ counted (affineFamily s l .made (suc (i + 0)))
+      here e = e ∙ ap (λ (x : ℕ). affineFamily s l .tagOfRow (suc x) ∷ counted (affineFamily s l .made (suc x))) (sym (add-zero i))
 
-      later : (c : ℕ) (k : ℕ) → c ≡ countUpTo (tagged s l) (suc i)
-          → getD (recordsFrom (suc i) (countUpTo (tagged s l) (suc i)) us) k [] ≡ rowRecord s l (suc (suc i + k))
+      later : (c : ℕ) (k : ℕ) → c ≡ countUpTo (isTagged s l) (suc i)
+          → getD (recordsFrom (suc i) (countUpTo (isTagged s l) (suc i)) us) k [] ≡ rowRecord s l (suc (suc i + k))
           → getD (recordsFrom (suc i) c us) k [] ≡ rowRecord s l (suc (i + suc k))
       later c k e ih =
           let z : suc i + k ≡ i + suc k = omega arith in
           ap (λ (x : ℕ). getD (recordsFrom (suc i) x us) k []) e ∙ ih ∙ ap (λ (x : ℕ). rowRecord s l (suc x)) z
 
-      go : ((k : ℕ) → k < length us → getD (recordsFrom (suc i) (countUpTo (tagged s l) (suc i)) us) k [] ≡ rowRecord s l (suc (suc i + k)))
+      go : ((k : ℕ) → k < length us → getD (recordsFrom (suc i) (countUpTo (isTagged s l) (suc i)) us) k [] ≡ rowRecord s l (suc (suc i + k)))
           → (b : Bool) → eqb (w .last) 0 ≡ b → (k : ℕ) → k < suc (length us)
           → getD (elim b [
             | true ↦ (0 ∷ counted left) ∷ recordsFrom (suc i) before us
@@ -273,7 +273,7 @@ module _ (s l : ℕ) where
 module _ (s l : ℕ) (size : sized s l ≡ true) where
   eliminated-length : length {A = Remainder} (eliminated s l) ≡ rowCount s l
   unfolding eliminated
-  eliminated-length = remainders-length (cards s l) (λ i. cardsAt s l (pointOf s l i)) (rowCount s l)
+  eliminated-length = remainders-length (affineItems s l) (λ i. itemsAt s l (pointOf s l i)) (rowCount s l)
 
   record-is : (i : ℕ) → 1 ≤ i → i ≤ rowCount s l → getD (recordsFrom 0 0 (eliminated s l)) (i - 1) [] ≡ rowRecord s l i
   unfolding remainder
@@ -298,9 +298,9 @@ module _ (s l : ℕ) (size : sized s l ≡ true) where
   -- a record is short
   pub record-few : (i : ℕ) → 1 ≤ i → i ≤ rowCount s l → length (rowRecord s l i) ≤ 66
   unfolding rowRecord
-  record-few i li ui = go (tagged s l i) refl
+  record-few i li ui = go (isTagged s l i) refl
     where
-      go : (b : Bool) → tagged s l i ≡ b → suc (suc (length (affine s l .made i))) ≤ 66
+      go : (b : Bool) → isTagged s l i ≡ b → suc (suc (length (affineFamily s l .made i))) ≤ 66
       go true e = omega (arith, ap length (made-none s l i li ui e))
       go false e =
           omega (
@@ -319,12 +319,12 @@ leftCount [] = 0
 leftCount (u ∷ us) = indicator (not (eqb (u .last) 0)) + leftCount us
 
 left-count : (s l : ℕ) (us : List Remainder) (i : ℕ) → ((n : ℕ) → n < length us → getD us n nothing ≡ remainder s l (suc (i + n))) → i + length us ≤ rowCount s l
-    → countUpTo (tagged s l) i + leftCount us ≡ countUpTo (tagged s l) (i + length us)
-unfolding leftCount tagged
-left-count s l [] i same few = omega (arith, ap (countUpTo (tagged s l)) (add-zero i))
+    → countUpTo (isTagged s l) i + leftCount us ≡ countUpTo (isTagged s l) (i + length us)
+unfolding leftCount isTagged
+left-count s l [] i same few = omega (arith, ap (countUpTo (isTagged s l)) (add-zero i))
 left-count s l (w ∷ us) i same few =
     let z : i + suc (length us) ≡ suc i + length us = omega arith in
-    omega (arith, left-count s l us (suc i) rest (omega arith), ap indicator this, ap (countUpTo (tagged s l)) z)
+    omega (arith, left-count s l us (suc i) rest (omega arith), ap indicator this, ap (countUpTo (isTagged s l)) z)
   where
     rest : (n : ℕ) → n < length us → getD us n nothing ≡ remainder s l (suc (suc i + n))
     rest n h = let e : i + suc n ≡ suc i + n = omega arith in same (suc n) (omega arith) ∙ ap (λ (x : ℕ). remainder s l (suc x)) e
@@ -332,27 +332,27 @@ left-count s l (w ∷ us) i same few =
     here : w ≡ remainder s l (suc i)
     here = same 0 (omega arith) ∙ ap (λ (x : ℕ). remainder s l (suc x)) (add-zero i)
 
-    this : tagged s l (suc i) ≡ not (eqb (w .last) 0)
+    this : isTagged s l (suc i) ≡ not (eqb (w .last) 0)
     this = rw (inside-yes (rowCount s l) (suc i) (omega arith) (omega arith)) (ap (λ (u : Remainder). not (eqb (u .last) 0)) (sym here))
 
 -- "Tags for s = 2 number 8, 9, 9; for s = 3 they number 19, 23, 24, 25, 26, 27, 27."
-unfoldable pub tagCounts : List ℕ
-tagCounts = 8 ∷ 9 ∷ 9 ∷ 19 ∷ 23 ∷ 24 ∷ 25 ∷ 26 ∷ 27 ∷ 27 ∷ []
+unfoldable pub affineTags : List ℕ
+affineTags = 8 ∷ 9 ∷ 9 ∷ 19 ∷ 23 ∷ 24 ∷ 25 ∷ 26 ∷ 27 ∷ 27 ∷ []
 
 tagsTest : ℕ → ℕ → Bool
-tagsTest s l = eqb (leftCount (quickly s l)) (getD tagCounts (sizeIndex s l) 0)
+tagsTest s l = eqb (leftCount (quickly s l)) (getD affineTags (sizeIndex s l) 0)
 
 tags-tested : sizesTest tagsTest ≡ true
-unfolding tagsTest leftCount tagCounts passing setUp cardAlong rowSet goThrough quickly courseOf placeOn chosenAt dual itemCount sizeIndex points xOf yOf holds chosen cards isRow polynomial timesX productBy product power inverse has greatest add reduced reducedBy remainderOf next
+unfolding tagsTest leftCount affineTags passing setUp cardAlong rowSet goThrough quickly courseOf placeOn chosenAt dual throughCount sizeIndex points xOf yOf onLine chosen affineItems isRow polynomial elementTimesX productOver product elementPower elementInverse has greatest add reduced reducedBy remainderOf next
 tags-tested = refl
 
-pub tag-count : (s l : ℕ) → sized s l ≡ true → affine s l .tags ≡ getD tagCounts (sizeIndex s l) 0
-unfolding affine tagsTest remainder
+pub tag-count : (s l : ℕ) → sized s l ≡ true → affineFamily s l .tags ≡ getD affineTags (sizeIndex s l) 0
+unfolding affineFamily tagsTest remainder
 tag-count s l size =
     let long = eliminated-length s l size in
-    sym (ap (countUpTo (tagged s l)) (zero-add (rowCount s l)) ∙ refl)
-    ∙ sym (ap (λ (n : ℕ). countUpTo (tagged s l) (0 + n)) long)
+    sym (ap (countUpTo (isTagged s l)) (zero-add (rowCount s l)) ∙ refl)
+    ∙ sym (ap (λ (n : ℕ). countUpTo (isTagged s l) (0 + n)) long)
     ∙ sym (left-count s l (eliminated s l) 0 (λ n h. let z : n ≡ suc (0 + n) - 1 = omega arith in ap (λ (x : ℕ). getD (eliminated s l) x nothing) z) (omega (arith, long)))
     ∙ zero-add (leftCount (eliminated s l))
     ∙ ap leftCount (sym (quickly-is s l size))
-    ∙ eqb-true (leftCount (quickly s l)) (getD tagCounts (sizeIndex s l) 0) (sizes-at s l size tagsTest tags-tested)
+    ∙ eqb-true (leftCount (quickly s l)) (getD affineTags (sizeIndex s l) 0) (sizes-at s l size tagsTest tags-tested)

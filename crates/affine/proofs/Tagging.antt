@@ -7,9 +7,9 @@ use Rattle.incidence.specs.Family.{Earlier, parity}
 use Rattle.incidence.proofs.Booleans.{and-right, and-both, and-false-r, not-both}
 use Rattle.incidence.proofs.Counting.{last-or, inside-yes, count-before}
 use Rattle.incidence.proofs.Listing.{Member, listed-at, listed-rank}
-use Rattle.affine.specs.Lines.{holds, cards, lineOf, pointOf}
+use Rattle.affine.specs.Lines.{onLine, affineItems, lineOf, pointOf}
 use Rattle.affine.specs.Elimination.{has, nothing}
-use Rattle.affine.specs.Affine.{rowCount, cardsAt, eliminated, remainder, tagged, affine, SumOfEarlier, TagsByRule}
+use Rattle.affine.specs.Affine.{rowCount, itemsAt, eliminated, remainder, isTagged, affineFamily, SumOfEarlier, TagsByRule}
 use Rattle.affine.proofs.Sets.{has-set}
 use Rattle.affine.proofs.Eliminating.{dependent, independent}
 
@@ -70,33 +70,33 @@ module _ (s l : ℕ) where
   v = rowCount s l
 
   m : ℕ
-  m = cards s l
+  m = affineItems s l
 
   row : ℕ → ℕ
-  row i = cardsAt s l (pointOf s l i)
+  row i = itemsAt s l (pointOf s l i)
 
   t : ℕ → Bool
-  t = tagged s l
+  t = isTagged s l
 
   -- what a row holds
-  on-row : (i j : ℕ) → 1 ≤ i → i ≤ rowCount s l → 1 ≤ j → j ≤ cards s l → affine s l .on i j ≡ has j (row i)
-  unfolding affine cardsAt row
+  on-row : (i j : ℕ) → 1 ≤ i → i ≤ rowCount s l → 1 ≤ j → j ≤ affineItems s l → affineFamily s l .on i j ≡ has j (row i)
+  unfolding affineFamily itemsAt row
   on-row i j li ui lj uj =
-      rw (inside-yes (rowCount s l) i li ui, inside-yes (cards s l) j lj uj) (sym (has-set (λ j. holds s (lineOf s l j) (pointOf s l i)) (cards s l) j lj uj))
+      rw (inside-yes (rowCount s l) i li ui, inside-yes (affineItems s l) j lj uj) (sym (has-set (λ j. onLine s (lineOf s l j) (pointOf s l i)) (affineItems s l) j lj uj))
 
   module _ (i : ℕ) (li : 1 ≤ i) (ui : i ≤ rowCount s l) where
     -- the XOR of earlier rows, by what the family holds and by the sets
-    same-parity : (j : ℕ) → 1 ≤ j → j ≤ cards s l → (Q : List ℕ) → Earlier i Q
-        → parity (λ a. affine s l .on a j) Q ≡ parity (λ a. has j (row a)) Q
+    same-parity : (j : ℕ) → 1 ≤ j → j ≤ affineItems s l → (Q : List ℕ) → Earlier i Q
+        → parity (λ a. affineFamily s l .on a j) Q ≡ parity (λ a. has j (row a)) Q
     same-parity j lj uj Q e = parity-same i _ _ Q e (λ a x y. on-row a j x (omega arith) lj uj)
 
     -- something is left of a tagged row, and of no other
-    left-some : tagged s l i ≡ true → remainder s l i .last ≡ 0 → ⊥
-    unfolding tagged
+    left-some : isTagged s l i ≡ true → remainder s l i .last ≡ 0 → ⊥
+    unfolding isTagged
     left-some h e = not-both (eqb (remainder s l i .last) 0) (eq-eqb _ 0 e) (not-true _ (and-right (inside (rowCount s l) i) _ h))
 
-    left-none : tagged s l i ≡ false → remainder s l i .last ≡ 0
-    unfolding tagged
+    left-none : isTagged s l i ≡ false → remainder s l i .last ≡ 0
+    unfolding isTagged
     left-none h = go (eqb (remainder s l i .last) 0) refl
       where
         go : (b : Bool) → eqb (remainder s l i .last) 0 ≡ b → remainder s l i .last ≡ 0
@@ -104,131 +104,131 @@ module _ (s l : ℕ) where
         go false e = absurd (not-both _ (and-both (inside-yes (rowCount s l) i li ui) (ap not e)) h)
 
     -- a row is tagged where something is left of it
-    pub tagged-yes : (remainder s l i .last ≡ 0 → ⊥) → tagged s l i ≡ true
-    unfolding tagged
+    pub tagged-yes : (remainder s l i .last ≡ 0 → ⊥) → isTagged s l i ≡ true
+    unfolding isTagged
     tagged-yes h = and-both (inside-yes (rowCount s l) i li ui) (ap not (ne-eqb _ 0 h))
 
-    pub tagged-no : remainder s l i .last ≡ 0 → tagged s l i ≡ false
-    unfolding tagged
+    pub tagged-no : remainder s l i .last ≡ 0 → isTagged s l i ≡ false
+    unfolding isTagged
     tagged-no h = and-false-r (inside (rowCount s l) i) _ (ap not (eq-eqb _ 0 h))
 
     -- the rows that it is made of
-    pub made-is : tagged s l i ≡ false → affine s l .made i ≡ listed (λ a. has a (remainder s l i .left .rows)) (i - 1)
-    unfolding affine
+    pub made-is : isTagged s l i ≡ false → affineFamily s l .made i ≡ listed (λ a. has a (remainder s l i .left .rows)) (i - 1)
+    unfolding affineFamily
     made-is h = rw (h, inside-yes (rowCount s l) i li ui)
 
-    pub made-none : tagged s l i ≡ true → affine s l .made i ≡ []
-    unfolding affine
+    pub made-none : isTagged s l i ≡ true → affineFamily s l .made i ≡ []
+    unfolding affineFamily
     made-none h = rw (h, inside-yes (rowCount s l) i li ui)
 
-    pub made-earlier : tagged s l i ≡ false → Earlier i (affine s l .made i)
+    pub made-earlier : isTagged s l i ≡ false → Earlier i (affineFamily s l .made i)
     made-earlier h = rw (made-is h) (listed-earlier (λ a. has a (remainder s l i .left .rows)) (i - 1) i (omega arith))
 
-    pub made-adds-up : tagged s l i ≡ false → (j : ℕ) → 1 ≤ j → j ≤ cards s l → affine s l .on i j ≡ parity (λ a. affine s l .on a j) (affine s l .made i)
+    pub made-adds-up : isTagged s l i ≡ false → (j : ℕ) → 1 ≤ j → j ≤ affineItems s l → affineFamily s l .on i j ≡ parity (λ a. affineFamily s l .on a j) (affineFamily s l .made i)
     unfolding remainder eliminated row
     made-adds-up h j lj uj =
         on-row i j li ui lj uj
-        ∙ dependent (cards s l) row (rowCount s l) i li ui nothing (left-none h) j lj uj
+        ∙ dependent (affineItems s l) row (rowCount s l) i li ui nothing (left-none h) j lj uj
         ∙ ap (parity (λ a. has j (row a))) (sym (made-is h))
-        ∙ sym (same-parity j lj uj (affine s l .made i) (made-earlier h))
+        ∙ sym (same-parity j lj uj (affineFamily s l .made i) (made-earlier h))
 
-    tagged-free : tagged s l i ≡ true → SumOfEarlier (affine s l) i → ⊥
-    unfolding remainder eliminated row affine
+    tagged-free : isTagged s l i ≡ true → SumOfEarlier (affineFamily s l) i → ⊥
+    unfolding remainder eliminated row affineFamily
     tagged-free h sum =
-        independent (cards s l) row (rowCount s l) i li ui nothing (left-some h) (sum .earlierRows) (sum .earlier)
+        independent (affineItems s l) row (rowCount s l) i li ui nothing (left-some h) (sum .earlierRows) (sum .earlier)
         (λ j lj uj. sym (on-row i j li ui lj uj) ∙ sum .adds-up j lj uj ∙ same-parity j lj uj (sum .earlierRows) (sum .earlier))
 
-    other-sum : tagged s l i ≡ false → SumOfEarlier (affine s l) i
-    unfolding affine
-    other-sum h = record { earlierRows = affine s l .made i; earlier = made-earlier h; adds-up = made-adds-up h }
+    other-sum : isTagged s l i ≡ false → SumOfEarlier (affineFamily s l) i
+    unfolding affineFamily
+    other-sum h = record { earlierRows = affineFamily s l .made i; earlier = made-earlier h; adds-up = made-adds-up h }
 
-    pub tag-of : tagged s l i ≡ true → affine s l .tagOfRow i ≡ countUpTo (tagged s l) i
-    unfolding affine
+    pub tag-of : isTagged s l i ≡ true → affineFamily s l .tagOfRow i ≡ countUpTo (isTagged s l) i
+    unfolding affineFamily
     tag-of h = rw h
 
-    pub tag-none : tagged s l i ≡ false → affine s l .tagOfRow i ≡ 0
-    unfolding affine
+    pub tag-none : isTagged s l i ≡ false → affineFamily s l .tagOfRow i ≡ 0
+    unfolding affineFamily
     tag-none h = rw h
 
     -- a row has a tag where it is tagged
-    pub has-tag : 1 ≤ affine s l .tagOfRow i → tagged s l i ≡ true
-    has-tag h = go (tagged s l i) refl
+    pub has-tag : 1 ≤ affineFamily s l .tagOfRow i → isTagged s l i ≡ true
+    has-tag h = go (isTagged s l i) refl
       where
-        go : (b : Bool) → tagged s l i ≡ b → tagged s l i ≡ true
+        go : (b : Bool) → isTagged s l i ≡ b → isTagged s l i ≡ true
         go true e = e
         go false e = absurd (omega (arith, tag-none e))
 
-    pub no-tag : affine s l .tagOfRow i ≡ 0 → tagged s l i ≡ false
-    no-tag h = go (tagged s l i) refl
+    pub no-tag : affineFamily s l .tagOfRow i ≡ 0 → isTagged s l i ≡ false
+    no-tag h = go (isTagged s l i) refl
       where
-        go : (b : Bool) → tagged s l i ≡ b → tagged s l i ≡ false
-        go true e = absurd (omega (arith, tag-of e, count-here (tagged s l) (rowCount s l) i li e))
+        go : (b : Bool) → isTagged s l i ≡ b → isTagged s l i ≡ false
+        go true e = absurd (omega (arith, tag-of e, count-here (isTagged s l) (rowCount s l) i li e))
         go false e = e
 
-    tag-some : tagged s l i ≡ true → 1 ≤ affine s l .tagOfRow i
-    tag-some e = omega (arith, tag-of e, count-here (tagged s l) (rowCount s l) i li e)
+    tag-some : isTagged s l i ≡ true → 1 ≤ affineFamily s l .tagOfRow i
+    tag-some e = omega (arith, tag-of e, count-here (isTagged s l) (rowCount s l) i li e)
 
-    pub tag-high : affine s l .tagOfRow i ≤ affine s l .tags
-    unfolding affine
-    tag-high = go (tagged s l i) refl
+    pub tag-high : affineFamily s l .tagOfRow i ≤ affineFamily s l .tags
+    unfolding affineFamily
+    tag-high = go (isTagged s l i) refl
       where
-        go : (b : Bool) → tagged s l i ≡ b → affine s l .tagOfRow i ≤ countUpTo (tagged s l) (rowCount s l)
-        go true e = omega (arith, tag-of e, rank-high (tagged s l) (rowCount s l) i li ui e)
+        go : (b : Bool) → isTagged s l i ≡ b → affineFamily s l .tagOfRow i ≤ countUpTo (isTagged s l) (rowCount s l)
+        go true e = omega (arith, tag-of e, rank-high (isTagged s l) (rowCount s l) i li ui e)
         go false e = omega (arith, tag-none e)
 
-    pub row-back : 1 ≤ affine s l .tagOfRow i → affine s l .rowOfTag (affine s l .tagOfRow i) ≡ i
-    unfolding affine
+    pub row-back : 1 ≤ affineFamily s l .tagOfRow i → affineFamily s l .rowOfTag (affineFamily s l .tagOfRow i) ≡ i
+    unfolding affineFamily
     row-back h =
         let e = has-tag h in
-        ap (λ (x : ℕ). getD (listed (tagged s l) (rowCount s l)) (x - 1) 0) (tag-of e) ∙ rank-nth (tagged s l) (rowCount s l) i li ui e
+        ap (λ (x : ℕ). getD (listed (isTagged s l) (rowCount s l)) (x - 1) 0) (tag-of e) ∙ rank-nth (isTagged s l) (rowCount s l) i li ui e
 
-    exact-at : (1 ≤ affine s l .tagOfRow i) ↔ (SumOfEarlier (affine s l) i → ⊥)
-    exact-at = (λ h. tagged-free (has-tag h), λ free. go free (tagged s l i) refl)
+    exact-at : (1 ≤ affineFamily s l .tagOfRow i) ↔ (SumOfEarlier (affineFamily s l) i → ⊥)
+    exact-at = (λ h. tagged-free (has-tag h), λ free. go free (isTagged s l i) refl)
       where
-        go : (SumOfEarlier (affine s l) i → ⊥) → (b : Bool) → tagged s l i ≡ b → 1 ≤ affine s l .tagOfRow i
+        go : (SumOfEarlier (affineFamily s l) i → ⊥) → (b : Bool) → isTagged s l i ≡ b → 1 ≤ affineFamily s l .tagOfRow i
         go free true e = tag-some e
         go free false e = absurd (free (other-sum e))
 
-  module _ (k : ℕ) (lk : 1 ≤ k) (uk : k ≤ affine s l .tags) where
-    tag-member : Member (tagged s l) (rowCount s l) (k - 1) (affine s l .rowOfTag k)
-    unfolding affine
-    tag-member = nth (tagged s l) (rowCount s l) k lk uk
+  module _ (k : ℕ) (lk : 1 ≤ k) (uk : k ≤ affineFamily s l .tags) where
+    tag-member : Member (isTagged s l) (rowCount s l) (k - 1) (affineFamily s l .rowOfTag k)
+    unfolding affineFamily
+    tag-member = nth (isTagged s l) (rowCount s l) k lk uk
 
-    pub row-low : 1 ≤ affine s l .rowOfTag k
+    pub row-low : 1 ≤ affineFamily s l .rowOfTag k
     row-low = tag-member .low
 
-    pub row-high : affine s l .rowOfTag k ≤ affine s l .rows
-    unfolding affine
+    pub row-high : affineFamily s l .rowOfTag k ≤ affineFamily s l .rows
+    unfolding affineFamily
     row-high = tag-member .high
 
-    pub tag-back : affine s l .tagOfRow (affine s l .rowOfTag k) ≡ k
-    unfolding affine
+    pub tag-back : affineFamily s l .tagOfRow (affineFamily s l .rowOfTag k) ≡ k
+    unfolding affineFamily
     tag-back =
-        tag-of (affine s l .rowOfTag k) row-low row-high (tag-member .passes) ∙ nth-rank (tagged s l) (rowCount s l) k lk uk
+        tag-of (affineFamily s l .rowOfTag k) row-low row-high (tag-member .passes) ∙ nth-rank (isTagged s l) (rowCount s l) k lk uk
 
   -- ranks rise with the numbers
-  rises : (k n : ℕ) → 1 ≤ k → k < n → n ≤ affine s l .tags → affine s l .rowOfTag k < affine s l .rowOfTag n
-  unfolding affine
-  rises k n lk h un = go (ltb (affine s l .rowOfTag k) (affine s l .rowOfTag n)) refl
+  rises : (k n : ℕ) → 1 ≤ k → k < n → n ≤ affineFamily s l .tags → affineFamily s l .rowOfTag k < affineFamily s l .rowOfTag n
+  unfolding affineFamily
+  rises k n lk h un = go (ltb (affineFamily s l .rowOfTag k) (affineFamily s l .rowOfTag n)) refl
     where
-      a : Member (tagged s l) (rowCount s l) (k - 1) (affine s l .rowOfTag k)
+      a : Member (isTagged s l) (rowCount s l) (k - 1) (affineFamily s l .rowOfTag k)
       a = tag-member k lk (omega arith)
 
-      b : Member (tagged s l) (rowCount s l) (n - 1) (affine s l .rowOfTag n)
+      b : Member (isTagged s l) (rowCount s l) (n - 1) (affineFamily s l .rowOfTag n)
       b = tag-member n (omega arith) un
 
-      go : (c : Bool) → ltb (affine s l .rowOfTag k) (affine s l .rowOfTag n) ≡ c → affine s l .rowOfTag k < affine s l .rowOfTag n
+      go : (c : Bool) → ltb (affineFamily s l .rowOfTag k) (affineFamily s l .rowOfTag n) ≡ c → affineFamily s l .rowOfTag k < affineFamily s l .rowOfTag n
       go true e = ltb-true _ _ e
       go false e =
           absurd (omega (
             arith,
             a .rank,
             b .rank,
-            ltb-false (affine s l .rowOfTag k) (affine s l .rowOfTag n) e,
-            count-up (tagged s l) (affine s l .rowOfTag n - 1) (affine s l .rowOfTag k - 1) (omega (arith, ltb-false (affine s l .rowOfTag k) (affine s l .rowOfTag n) e)),
+            ltb-false (affineFamily s l .rowOfTag k) (affineFamily s l .rowOfTag n) e,
+            count-up (isTagged s l) (affineFamily s l .rowOfTag n - 1) (affineFamily s l .rowOfTag k - 1) (omega (arith, ltb-false (affineFamily s l .rowOfTag k) (affineFamily s l .rowOfTag n) e)),
           ))
 
   -- "Tags go to each row that isn't a sum of earlier rows", and to no other
-  pub tags-by-rule : TagsByRule (affine s l)
-  unfolding affine
+  pub tags-by-rule : TagsByRule (affineFamily s l)
+  unfolding affineFamily
   tags-by-rule = record { exact = λ i li ui. exact-at i li ui; in-order = rises }

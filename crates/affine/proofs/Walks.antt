@@ -7,17 +7,17 @@ use Rattle.incidence.specs.Count.{countUpTo, listed, inside}
 use Rattle.incidence.specs.Family.{rowsOf, itemsOf}
 use Rattle.incidence.proofs.Booleans.{and-false-l, and-false-r}
 use Rattle.incidence.proofs.Counting.{Found, any-found, count-some, inside-low, inside-high}
-use Rattle.incidence.proofs.Listing.{Member, listed-at, listed-ext}
+use Rattle.incidence.proofs.Listing.{Member, listed-at, listed-ext, none-listed}
 use Rattle.affine.specs.declared.Line.{Line}
 use Rattle.affine.specs.declared.Course.{Course}
-use Rattle.affine.specs.Field.{product, inverse}
-use Rattle.affine.specs.Lines.{points, xOf, yOf, holds, chosen, crossing, cards, lineOf, isRow, pointOf}
-use Rattle.affine.specs.Affine.{sized, rowCount, affine}
-use Rattle.affine.specs.Walk.{firsts, courseOf, placeOn, rowAt, rowsMet, chosenAt, dual, itemCount, itemAt}
+use Rattle.affine.specs.Field.{product, elementInverse}
+use Rattle.affine.specs.Lines.{points, xOf, yOf, onLine, chosen, crossing, affineItems, lineOf, isRow, pointOf}
+use Rattle.affine.specs.Affine.{sized, rowCount, affineFamily}
+use Rattle.affine.specs.Walk.{firsts, courseOf, placeOn, rowAt, rowsMet, chosenAt, dual, throughCount, throughAt}
 use Rattle.affine.proofs.FieldLaws.{Field, xor-same, zero-left, zero-right}
 use Rattle.affine.proofs.Meeting.{of-chosen, of-crossing, x-low, y-low, same-point, held, Proper, chosen-proper, crossing-proper, chosen-through, crossing-one}
 use Rattle.affine.proofs.Disjunct as disjunct
-use Rattle.affine.proofs.Listings.{Among, Passing, listed-firsts, listed-places, none-listed, firsts-length}
+use Rattle.affine.proofs.Listings.{Among, Passing, listed-firsts, listed-places, firsts-length}
 use Rattle.affine.proofs.Along.{along, divided}
 
 module _ (s l : ℕ) (size : sized s l ≡ true) where
@@ -28,8 +28,8 @@ module _ (s l : ℕ) (size : sized s l ≡ true) where
   -- ---- the lines that are walked along
 
   -- the line of a card
-  pub card-proper : (j : ℕ) → 1 ≤ j → j ≤ cards s l → Proper s F (lineOf s l j)
-  unfolding cards
+  pub card-proper : (j : ℕ) → 1 ≤ j → j ≤ affineItems s l → Proper s F (lineOf s l j)
+  unfolding affineItems
   card-proper j lj uj = go (leb j l) refl
     where
       go : (t : Bool) → leb j l ≡ t → Proper s F (lineOf s l j)
@@ -37,7 +37,7 @@ module _ (s l : ℕ) (size : sized s l ≡ true) where
       go false e = let h : l < j = leb-false j l e in rw (of-crossing s l j e) (crossing-proper s F (j - l) (omega arith) (omega arith))
 
   -- the points of a proper line, in rising order
-  line-along : (L : Line) → Proper s F L → Passing (holds s L) (points s) (placeOn s (courseOf s L)) (2 ^ s)
+  line-along : (L : Line) → Proper s F L → Passing (onLine s L) (points s) (placeOn s (courseOf s L)) (2 ^ s)
   line-along L P = along s F L (P .low-a) (P .low-b) (P .low-c) (P .some)
 
   -- ---- the rows of a card
@@ -57,16 +57,16 @@ module _ (s l : ℕ) (size : sized s l ≡ true) where
       go false e = rw e
 
   -- the rows of card j, along its line
-  pub rows-along : (j : ℕ) → 1 ≤ j → j ≤ cards s l → rowsOf (affine s l) j ≡ rowsMet s l (courseOf s (lineOf s l j)) (2 ^ s)
-  unfolding affine rowsOf rowCount pointOf rowsMet
+  pub rows-along : (j : ℕ) → 1 ≤ j → j ≤ affineItems s l → rowsOf (affineFamily s l) j ≡ rowsMet s l (courseOf s (lineOf s l j)) (2 ^ s)
+  unfolding affineFamily rowsOf rowCount pointOf rowsMet
   rows-along j lj uj =
-      listed-ext (λ i. affine s l .on i j) (λ i. holds s (lineOf s l j) (pointOf s l i)) (rowCount s l) (λ i a b. disjunct.on-point s l size i j a b lj uj)
+      listed-ext (λ i. affineFamily s l .on i j) (λ i. onLine s (lineOf s l j) (pointOf s l i)) (rowCount s l) (λ i a b. disjunct.on-point s l size i j a b lj uj)
       ∙ listed-places P (isRow s l) (rowsMet s l C) refl (λ t h. met-next C t (P .low t h))
     where
       C : Course
       C = courseOf s (lineOf s l j)
 
-      P : Passing (holds s (lineOf s l j)) (points s) (placeOn s C) (2 ^ s)
+      P : Passing (onLine s (lineOf s l j)) (points s) (placeOn s C) (2 ^ s)
       P = line-along (lineOf s l j) (card-proper j lj uj)
 
   -- ---- the cards of a point
@@ -81,13 +81,13 @@ module _ (s l : ℕ) (size : sized s l ≡ true) where
   y-first = zero-div (2 ^ s)
 
   -- a line holds the origin where c is 0
-  at-origin : (L : Line) → holds s L 1 ≡ eqb 0 (L .c)
-  unfolding holds
+  at-origin : (L : Line) → onLine s L 1 ≡ eqb 0 (L .c)
+  unfolding onLine
   at-origin L = rw (x-first, y-first, zero-right s F (L .a), zero-right s F (L .b))
 
   -- all chosen lines do, and no other card's
-  origin-items : Passing (λ j. holds s (lineOf s l j) 1) (cards s l) (λ k. k + 1) l
-  unfolding cards
+  origin-items : Passing (λ j. onLine s (lineOf s l j) 1) (affineItems s l) (λ k. k + 1) l
+  unfolding affineItems
   origin-items = record {
     low = λ t h. omega arith;
     high = λ t h. omega arith;
@@ -96,10 +96,10 @@ module _ (s l : ℕ) (size : sized s l ≡ true) where
     all = λ j lj uj e. go j lj e (leb j l) refl;
   }
     where
-      go : (j : ℕ) → 1 ≤ j → holds s (lineOf s l j) 1 ≡ true → (t : Bool) → leb j l ≡ t → Among (λ k. k + 1) l j
+      go : (j : ℕ) → 1 ≤ j → onLine s (lineOf s l j) 1 ≡ true → (t : Bool) → leb j l ≡ t → Among (λ k. k + 1) l j
       go j lj h true e = record { place = j - 1; below = omega (arith, leb-true j l e); same = omega arith }
       go j lj h false e =
-          absurd (true≢false (sym h ∙ ap (λ (L : Line). holds s L 1) (of-crossing s l j e) ∙ at-origin (crossing s (j - l))
+          absurd (true≢false (sym h ∙ ap (λ (L : Line). onLine s L 1) (of-crossing s l j e) ∙ at-origin (crossing s (j - l))
           ∙ ap (eqb 0) (crossing-one s F (j - l))))
 
   module _ (p : ℕ) (lp : 1 ≤ p) (up : p ≤ points s) (ne : p ≡ 1 → ⊥) where
@@ -118,8 +118,8 @@ module _ (s l : ℕ) (size : sized s l ≡ true) where
     }
 
     -- a line ax + by = 1 holds the point where the dual holds (b, a)
-    turned : (n : ℕ) → holds s (crossing s n) p ≡ holds s (dual s p) (suc n)
-    unfolding holds crossing dual xOf yOf
+    turned : (n : ℕ) → onLine s (crossing s n) p ≡ onLine s (dual s p) (suc n)
+    unfolding onLine crossing dual xOf yOf
     turned n =
         let e : suc n - 1 ≡ n = omega arith in
         rw e
@@ -128,7 +128,7 @@ module _ (s l : ℕ) (size : sized s l ≡ true) where
         ∙ xor-comm (product s (xOf s p) (n / 2 ^ s)) (product s (yOf s p) (n % 2 ^ s))))
 
     -- the only chosen line that can hold it
-    chosen-only : (k : ℕ) → 1 ≤ k → k ≤ 2 ^ s + 1 → holds s (chosen s k) p ≡ true → k ≡ chosenAt s p
+    chosen-only : (k : ℕ) → 1 ≤ k → k ≤ 2 ^ s + 1 → onLine s (chosen s k) p ≡ true → k ≡ chosenAt s p
     unfolding chosen chosenAt
     chosen-only k lk uk h = go (leb k (2 ^ s)) refl
       where
@@ -140,7 +140,7 @@ module _ (s l : ℕ) (size : sized s l ≡ true) where
             let q : product s (xOf s p) (k - 1) ≡ yOf s p =
             F .comm (xOf s p) (k - 1) ∙ rw e at said ∙ F .one (yOf s p) (y-low s F p lp up) in
             let some : (xOf s p ≡ 0 → ⊥) = λ z. elsewhere z (sym q ∙ ap (λ (v : ℕ). product s v (k - 1)) z ∙ zero-left s F (k - 1)) in
-            let d : k - 1 ≡ product s (inverse s (xOf s p)) (yOf s p) =
+            let d : k - 1 ≡ product s (elementInverse s (xOf s p)) (yOf s p) =
             divided s F (xOf s p) (k - 1) (yOf s p) (omega arith) (x-low s F p) (omega (arith, leb-true k (2 ^ s) e)) q in
             rw (ne-eqb (xOf s p) 0 some) (omega arith)
         go false e =
@@ -152,39 +152,39 @@ module _ (s l : ℕ) (size : sized s l ≡ true) where
     abbrev place : ℕ → ℕ
     place = placeOn s (courseOf s (dual s p))
 
-    dual-along : Passing (holds s (dual s p)) (points s) place (2 ^ s)
+    dual-along : Passing (onLine s (dual s p)) (points s) place (2 ^ s)
     dual-along = line-along (dual s p) dual-proper
 
     -- the origin is none of them
     above : (t : ℕ) → t < 2 ^ s → 1 < place t
     unfolding dual
     above t h =
-        let apart : (place t ≡ 1 → ⊥) = λ z. true≢false (sym (dual-along .passes t h) ∙ ap (holds s (dual s p)) z ∙ at-origin (dual s p)) in
+        let apart : (place t ≡ 1 → ⊥) = λ z. true≢false (sym (dual-along .passes t h) ∙ ap (onLine s (dual s p)) z ∙ at-origin (dual s p)) in
         omega (arith, dual-along .low t h)
 
     -- the items by their places
-    item-first : itemAt s l p 0 ≡ chosenAt s p
-    unfolding itemAt
+    item-first : throughAt s l p 0 ≡ chosenAt s p
+    unfolding throughAt
     item-first = rw (ne-eqb p 1 ne)
 
-    item-next : (t : ℕ) → itemAt s l p (suc t) ≡ l + place t - 1
-    unfolding itemAt
+    item-next : (t : ℕ) → throughAt s l p (suc t) ≡ l + place t - 1
+    unfolding throughAt
     item-next t =
         let e : suc t - 1 ≡ t = omega arith in
         rw (ne-eqb p 1 ne, ne-eqb (suc t) 0 (λ z. omega arith), e)
 
     module _ (row : isRow s l p ≡ true) where
       -- where it is a row, some chosen line goes through it, and that is the first item
-      through : Found (λ k. holds s (chosen s k) p) l
+      through : Found (λ k. onLine s (chosen s k) p) l
       unfolding isRow
-      through = any-found (λ k. holds s (chosen s k) p) l row
+      through = any-found (λ k. onLine s (chosen s k) p) l row
 
-      first : itemAt s l p 0 ≡ through .at
+      first : throughAt s l p 0 ≡ through .at
       first = item-first ∙ sym (chosen-only (through .at) (through .low) (omega (arith, through .high, disjunct.most s l size)) (through .passes))
 
       -- so the items whose lines go through it are that one, and one for each point of the dual
-      items : Passing (λ j. holds s (lineOf s l j) p) (cards s l) (itemAt s l p) (2 ^ s + 1)
-      unfolding cards
+      items : Passing (λ j. onLine s (lineOf s l j) p) (affineItems s l) (throughAt s l p) (2 ^ s + 1)
+      unfolding affineItems
       items = record {
         low = low;
         high = high;
@@ -193,20 +193,20 @@ module _ (s l : ℕ) (size : sized s l ≡ true) where
         all = λ j lj uj e. all j lj uj e (leb j l) refl;
       }
         where
-          low : (t : ℕ) → t < 2 ^ s + 1 → 1 ≤ itemAt s l p t
+          low : (t : ℕ) → t < 2 ^ s + 1 → 1 ≤ throughAt s l p t
           low zero h = omega (arith, first, through .low)
           low (suc t) h = omega (arith, item-next t, above t (omega arith))
 
-          high : (t : ℕ) → t < 2 ^ s + 1 → itemAt s l p t ≤ cards s l
+          high : (t : ℕ) → t < 2 ^ s + 1 → throughAt s l p t ≤ affineItems s l
           high zero h = omega (arith, first, through .high)
           high (suc t) h = omega (arith, item-next t, dual-along .high t (omega arith))
 
-          rises : (t u : ℕ) → t < u → u < 2 ^ s + 1 → itemAt s l p t < itemAt s l p u
+          rises : (t u : ℕ) → t < u → u < 2 ^ s + 1 → throughAt s l p t < throughAt s l p u
           rises t zero h k = absurd (omega arith)
           rises zero (suc u) h k = omega (arith, first, through .high, item-next u, above u (omega arith))
           rises (suc t) (suc u) h k = omega (arith, item-next t, item-next u, above t (omega arith), dual-along .rises t u (omega arith) (omega arith))
 
-          passes : (t : ℕ) → t < 2 ^ s + 1 → holds s (lineOf s l (itemAt s l p t)) p ≡ true
+          passes : (t : ℕ) → t < 2 ^ s + 1 → onLine s (lineOf s l (throughAt s l p t)) p ≡ true
           passes zero h = rw (first, of-chosen s l (through .at) (le-leb _ l (through .high))) (through .passes)
           passes (suc t) h =
               let a : 1 < place t = above t (omega arith) in
@@ -214,7 +214,7 @@ module _ (s l : ℕ) (size : sized s l ≡ true) where
               let d : suc (place t - 1) ≡ place t = omega arith in
               rw (item-next t, of-crossing s l (l + place t - 1) (lt-leb _ l (omega arith)), c, turned (place t - 1), d) (dual-along .passes t (omega arith))
 
-          all : (j : ℕ) → 1 ≤ j → j ≤ cards s l → holds s (lineOf s l j) p ≡ true → (b : Bool) → leb j l ≡ b → Among (itemAt s l p) (2 ^ s + 1) j
+          all : (j : ℕ) → 1 ≤ j → j ≤ affineItems s l → onLine s (lineOf s l j) p ≡ true → (b : Bool) → leb j l ≡ b → Among (throughAt s l p) (2 ^ s + 1) j
           all j lj uj h true e =
               let u : j ≤ l = leb-true j l e in
               record {
@@ -230,11 +230,11 @@ module _ (s l : ℕ) (size : sized s l ≡ true) where
 
   -- the cards whose lines go through a point that is a row
   pub items-through : (p : ℕ) → 1 ≤ p → p ≤ points s → isRow s l p ≡ true
-      → listed (λ j. holds s (lineOf s l j) p) (cards s l) ≡ firsts (itemAt s l p) (itemCount s l p)
-  unfolding itemAt itemCount
+      → listed (λ j. onLine s (lineOf s l j) p) (affineItems s l) ≡ firsts (throughAt s l p) (throughCount s l p)
+  unfolding throughAt throughCount
   items-through p lp up row = go (eqb p 1) refl
     where
-      go : (t : Bool) → eqb p 1 ≡ t → listed (λ j. holds s (lineOf s l j) p) (cards s l) ≡ firsts (itemAt s l p) (itemCount s l p)
+      go : (t : Bool) → eqb p 1 ≡ t → listed (λ j. onLine s (lineOf s l j) p) (affineItems s l) ≡ firsts (throughAt s l p) (throughCount s l p)
       go true e = rw (eqb-true p 1 e) (listed-firsts origin-items)
       go false e = rw e (listed-firsts (items p lp up (eqb-false p 1 e) row))
 
@@ -256,26 +256,26 @@ module _ (s l : ℕ) (size : sized s l ≡ true) where
     point-row = point .passes
 
     -- the cards of row i
-    pub items-along : itemsOf (affine s l) i ≡ firsts (itemAt s l (pointOf s l i)) (itemCount s l (pointOf s l i))
-    unfolding affine itemsOf
+    pub items-along : itemsOf (affineFamily s l) i ≡ firsts (throughAt s l (pointOf s l i)) (throughCount s l (pointOf s l i))
+    unfolding affineFamily itemsOf
     items-along =
-        listed-ext (affine s l .on i) (λ j. holds s (lineOf s l j) (pointOf s l i)) (cards s l) (λ j a b. disjunct.on-point s l size i j li ui a b)
+        listed-ext (affineFamily s l .on i) (λ j. onLine s (lineOf s l j) (pointOf s l i)) (affineItems s l) (λ j a b. disjunct.on-point s l size i j li ui a b)
         ∙ items-through (pointOf s l i) point-low point-high point-row
 
   -- ---- a number out of range, and how many there are
 
   -- a number out of range has none
-  pub rows-out : (j : ℕ) → inside (cards s l) j ≡ false → rowsOf (affine s l) j ≡ []
-  unfolding affine rowsOf
+  pub rows-out : (j : ℕ) → inside (affineItems s l) j ≡ false → rowsOf (affineFamily s l) j ≡ []
+  unfolding affineFamily rowsOf
   rows-out j e =
-      none-listed (λ i. affine s l .on i j) (rowCount s l)
-      (λ i. and-false-l _ (holds s (lineOf s l j) (pointOf s l i)) (and-false-r (inside (rowCount s l) i) _ e))
+      none-listed (λ i. affineFamily s l .on i j) (rowCount s l)
+      (λ i. and-false-l _ (onLine s (lineOf s l j) (pointOf s l i)) (and-false-r (inside (rowCount s l) i) _ e))
 
-  pub items-out : (i : ℕ) → inside (rowCount s l) i ≡ false → itemsOf (affine s l) i ≡ []
-  unfolding affine itemsOf
+  pub items-out : (i : ℕ) → inside (rowCount s l) i ≡ false → itemsOf (affineFamily s l) i ≡ []
+  unfolding affineFamily itemsOf
   items-out i e =
-      none-listed (affine s l .on i) (cards s l)
-      (λ j. and-false-l _ (holds s (lineOf s l j) (pointOf s l i)) (and-false-l _ (inside (cards s l) j) e))
+      none-listed (affineFamily s l .on i) (affineItems s l)
+      (λ j. and-false-l _ (onLine s (lineOf s l j) (pointOf s l i)) (and-false-l _ (inside (affineItems s l) j) e))
 
   -- at most one row a place
   met-few : (C : Course) (n : ℕ) → length (rowsMet s l C n) ≤ n
@@ -289,27 +289,27 @@ module _ (s l : ℕ) (size : sized s l ≡ true) where
       go ih false = omega (arith, length-append (rowsMet s l C n) (rowAt s l (placeOn s C n) ∷ []))
 
   -- so a card is on at most 2^s rows
-  pub rows-few : (j : ℕ) → length (rowsOf (affine s l) j) ≤ 2 ^ s
-  rows-few j = go (inside (cards s l) j) refl
+  pub rows-few : (j : ℕ) → length (rowsOf (affineFamily s l) j) ≤ 2 ^ s
+  rows-few j = go (inside (affineItems s l) j) refl
     where
-      go : (b : Bool) → inside (cards s l) j ≡ b → length (rowsOf (affine s l) j) ≤ 2 ^ s
+      go : (b : Bool) → inside (affineItems s l) j ≡ b → length (rowsOf (affineFamily s l) j) ≤ 2 ^ s
       go true e = rw (rows-along j (inside-low _ j e) (inside-high _ j e)) (met-few (courseOf s (lineOf s l j)) (2 ^ s))
       go false e = rw (rows-out j e) (omega arith)
 
   -- a row has at most 2^s + 1 cards
-  count-few : (p : ℕ) → itemCount s l p ≤ 2 ^ s + 1
-  unfolding itemCount
+  count-few : (p : ℕ) → throughCount s l p ≤ 2 ^ s + 1
+  unfolding throughCount
   count-few p = go (eqb p 1)
     where
       go : (b : Bool) → (if b then l else 2 ^ s + 1) ≤ 2 ^ s + 1
       go true = disjunct.most s l size
       go false = omega arith
 
-  pub items-few : (i : ℕ) → length (itemsOf (affine s l) i) ≤ 2 ^ s + 1
+  pub items-few : (i : ℕ) → length (itemsOf (affineFamily s l) i) ≤ 2 ^ s + 1
   items-few i = go (inside (rowCount s l) i) refl
     where
-      go : (b : Bool) → inside (rowCount s l) i ≡ b → length (itemsOf (affine s l) i) ≤ 2 ^ s + 1
+      go : (b : Bool) → inside (rowCount s l) i ≡ b → length (itemsOf (affineFamily s l) i) ≤ 2 ^ s + 1
       go true e =
-          rw (items-along i (inside-low _ i e) (inside-high _ i e), firsts-length (itemAt s l (pointOf s l i)) (itemCount s l (pointOf s l i)))
+          rw (items-along i (inside-low _ i e) (inside-high _ i e), firsts-length (throughAt s l (pointOf s l i)) (throughCount s l (pointOf s l i)))
           (count-few (pointOf s l i))
       go false e = rw (items-out i e) (omega arith)

@@ -10,7 +10,7 @@ use Rattle.blocks.specs.Block.{if_then_else_}
 use Rattle.incidence.specs.Count.{countUpTo, listed, inside}
 use Rattle.incidence.specs.Family.{Family, Earlier, parity}
 use Rattle.affine.specs.Field.{offered}
-use Rattle.affine.specs.Lines.{points, holds, cards, lineOf, isRow, pointOf}
+use Rattle.affine.specs.Lines.{points, onLine, affineItems, lineOf, isRow, pointOf}
 use Rattle.affine.specs.Elimination.{has, setOf, Remainder, nothing, remainders}
 
 -- "s = 2 and 3", "The parameter l runs from 3 to 2^s+1"
@@ -22,31 +22,31 @@ module _ (s l : ℕ) where
   rowCount = countUpTo (isRow s l) (points s)
 
   -- the cards whose lines hold point p, as a set
-  unfoldable pub cardsAt : ℕ → ℕ
-  cardsAt p = setOf (λ j. holds s (lineOf s l j) p) (cards s l)
+  unfoldable pub itemsAt : ℕ → ℕ
+  itemsAt p = setOf (λ j. onLine s (lineOf s l j) p) (affineItems s l)
 
   -- what elimination leaves of each row
   unfoldable pub eliminated : List Remainder
-  eliminated = remainders (cards s l) (λ i. cardsAt (pointOf s l i)) rowCount
+  eliminated = remainders (affineItems s l) (λ i. itemsAt (pointOf s l i)) rowCount
 
   unfoldable pub remainder : ℕ → Remainder
   remainder i = getD eliminated (i - 1) nothing
 
   -- "Tags go to each row that isn't a sum of earlier rows": where something is left
-  unfoldable pub tagged : ℕ → Bool
-  tagged i = inside rowCount i && not (eqb (remainder i .last) 0)
+  unfoldable pub isTagged : ℕ → Bool
+  isTagged i = inside rowCount i && not (eqb (remainder i .last) 0)
 
   -- "The tags stand in row order, and tag i of them, from 1, takes mask i. The limit is l−2."
-  unfoldable pub affine : Family
-  affine = record {
-    items = cards s l;
+  unfoldable pub affineFamily : Family
+  affineFamily = record {
+    items = affineItems s l;
     rows = rowCount;
-    tags = countUpTo tagged rowCount;
+    tags = countUpTo isTagged rowCount;
     limit = l - 2;
-    on = λ i j. (inside rowCount i && inside (cards s l) j) && holds s (lineOf s l j) (pointOf s l i);
-    rowOfTag = λ k. getD (listed tagged rowCount) (k - 1) 0;
-    tagOfRow = λ i. if tagged i then countUpTo tagged i else 0;
-    made = λ i. if inside rowCount i && not (tagged i) then listed (λ a. has a (remainder i .left .rows)) (i - 1) else [];
+    on = λ i j. (inside rowCount i && inside (affineItems s l) j) && onLine s (lineOf s l j) (pointOf s l i);
+    rowOfTag = λ k. getD (listed isTagged rowCount) (k - 1) 0;
+    tagOfRow = λ i. if isTagged i then countUpTo isTagged i else 0;
+    made = λ i. if inside rowCount i && not (isTagged i) then listed (λ a. has a (remainder i .left .rows)) (i - 1) else [];
   }
 
 -- row i of a family is a sum of earlier rows: those listed

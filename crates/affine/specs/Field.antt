@@ -15,22 +15,22 @@ unfoldable pub polynomial : ℕ → ℕ
 polynomial s = if eqb s 2 then 7 else 11
 
 -- an element times x
-unfoldable pub timesX : ℕ → ℕ → ℕ
-timesX s a = if ltb (a * 2) (2 ^ s) then a * 2 else bitXor (a * 2) (polynomial s)
+unfoldable pub elementTimesX : ℕ → ℕ → ℕ
+elementTimesX s a = if ltb (a * 2) (2 ^ s) then a * 2 else bitXor (a * 2) (polynomial s)
 
 -- the sum of a times x^i over those of the first n bits i of b that are 1
-unfoldable pub productBy : ℕ → ℕ → ℕ → ℕ → ℕ
-productBy s zero a b = 0
-productBy s (suc n) a b = bitXor (b % 2 * a) (productBy s n (timesX s a) (b / 2))
+unfoldable pub productOver : ℕ → ℕ → ℕ → ℕ → ℕ
+productOver s zero a b = 0
+productOver s (suc n) a b = bitXor (b % 2 * a) (productOver s n (elementTimesX s a) (b / 2))
 
 -- the product of two elements; of larger numbers their lowest s bits are taken
 unfoldable pub product : ℕ → ℕ → ℕ → ℕ
-product s a b = productBy s s (a % 2 ^ s) (b % 2 ^ s)
+product s a b = productOver s s (a % 2 ^ s) (b % 2 ^ s)
 
 -- a to the power n, and the inverse of an element, which is its power 2^s − 2; 0 goes to 0
-unfoldable pub power : ℕ → ℕ → ℕ → ℕ
-power s a zero = 1
-power s a (suc n) = product s (power s a n) a
+unfoldable pub elementPower : ℕ → ℕ → ℕ → ℕ
+elementPower s a zero = 1
+elementPower s a (suc n) = product s (elementPower s a n) a
 
-unfoldable pub inverse : ℕ → ℕ → ℕ
-inverse s a = power s a (2 ^ s - 2)
+unfoldable pub elementInverse : ℕ → ℕ → ℕ
+elementInverse s a = elementPower s a (2 ^ s - 2)

@@ -22,8 +22,8 @@ unfoldable pub yOf : ℕ → ℕ → ℕ
 yOf s p = (p - 1) / 2 ^ s
 
 -- whether the line ax + by = c holds point p
-unfoldable pub holds : ℕ → Line → ℕ → Bool
-holds s L p = eqb (bitXor (product s (L .a) (xOf s p)) (product s (L .b) (yOf s p))) (L .c)
+unfoldable pub onLine : ℕ → Line → ℕ → Bool
+onLine s L p = eqb (bitXor (product s (L .a) (xOf s p)) (product s (L .b) (yOf s p))) (L .c)
 
 -- "The chosen lines are the first l of y = kx for k rising, then the line x = 0": line k + 1 is y = kx, as kx + y = 0, and line 2^s + 1
 -- is x = 0
@@ -35,15 +35,15 @@ unfoldable pub crossing : ℕ → ℕ → Line
 crossing s n = record { a = n / 2 ^ s; b = n % 2 ^ s; c = 1 }
 
 -- "Cards stand for the chosen lines, then the lines ax+by = 1": how many there are, and the line of card j
-unfoldable pub cards : ℕ → ℕ → ℕ
-cards s l = l + (points s - 1)
+unfoldable pub affineItems : ℕ → ℕ → ℕ
+affineItems s l = l + (points s - 1)
 
 unfoldable pub lineOf : ℕ → ℕ → ℕ → Line
 lineOf s l j = if leb j l then chosen s j else crossing s (j - l)
 
 -- "Rows stand for points of the chosen lines, by y×2^s+x rising": whether point p is one, how many there are, and the point of row i
 unfoldable pub isRow : ℕ → ℕ → ℕ → Bool
-isRow s l p = anyUpTo (λ k. holds s (chosen s k) p) l
+isRow s l p = anyUpTo (λ k. onLine s (chosen s k) p) l
 
 unfoldable pub pointOf : ℕ → ℕ → ℕ → ℕ
 pointOf s l i = getD (listed (isRow s l) (points s)) (i - 1) 0

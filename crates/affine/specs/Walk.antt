@@ -10,9 +10,9 @@ use Rattle.blocks.specs.Block.{if_then_else_}
 use Rattle.incidence.specs.Count.{countUpTo}
 use Rattle.affine.specs.declared.Line.{Line}
 use Rattle.affine.specs.declared.Course.{Course}
-use Rattle.affine.specs.Field.{product, inverse}
+use Rattle.affine.specs.Field.{product, elementInverse}
 use Rattle.affine.specs.Lines.{xOf, yOf, isRow}
-use Rattle.affine.specs.Affine.{affine}
+use Rattle.affine.specs.Affine.{affineFamily}
 
 -- the first n of the numbers f 0, f 1, ..
 unfoldable pub firsts : (ℕ → ℕ) → ℕ → List ℕ
@@ -22,8 +22,8 @@ firsts f (suc n) = firsts f n ++ (f n ∷ [])
 -- ax + by = c solved: where a is 0, y = c / b; else x = c / a + (b / a) y
 unfoldable pub courseOf : ℕ → Line → Course
 courseOf s L =
-    if eqb (L .a) 0 then record { level = true; start = product s (inverse s (L .b)) (L .c); slope = 0 } else
-    record { level = false; start = product s (inverse s (L .a)) (L .c); slope = product s (inverse s (L .a)) (L .b) }
+    if eqb (L .a) 0 then record { level = true; start = product s (elementInverse s (L .b)) (L .c); slope = 0 } else
+    record { level = false; start = product s (elementInverse s (L .a)) (L .c); slope = product s (elementInverse s (L .a)) (L .b) }
 
 -- its point at place t, from 0 to 2^s − 1: t is x where it is level, and y where it is not
 unfoldable pub placeOn : ℕ → Course → ℕ → ℕ
@@ -41,18 +41,18 @@ rowsMet s l C (suc n) =
 
 -- the chosen line through a point that is not the origin: x = 0, or y = kx with k = y / x
 unfoldable pub chosenAt : ℕ → ℕ → ℕ
-chosenAt s p = if eqb (xOf s p) 0 then 2 ^ s + 1 else product s (inverse s (xOf s p)) (yOf s p) + 1
+chosenAt s p = if eqb (xOf s p) 0 then 2 ^ s + 1 else product s (elementInverse s (xOf s p)) (yOf s p) + 1
 
 -- a line ax + by = 1 goes through point (x, y) where (b, a) is on the line yx' + xy' = 1
 unfoldable pub dual : ℕ → ℕ → Line
 dual s p = record { a = yOf s p; b = xOf s p; c = 1 }
 
 -- the items whose lines go through point p, in rising order: at the origin all chosen lines; elsewhere one, and then 2^s lines ax + by = 1
-unfoldable pub itemCount : ℕ → ℕ → ℕ → ℕ
-itemCount s l p = if eqb p 1 then l else 2 ^ s + 1
+unfoldable pub throughCount : ℕ → ℕ → ℕ → ℕ
+throughCount s l p = if eqb p 1 then l else 2 ^ s + 1
 
-unfoldable pub itemAt : ℕ → ℕ → ℕ → ℕ → ℕ
-itemAt s l p k =
+unfoldable pub throughAt : ℕ → ℕ → ℕ → ℕ → ℕ
+throughAt s l p k =
     if eqb p 1 then k + 1 else (if eqb k 0 then chosenAt s p else l + placeOn s (courseOf s (dual s p)) (k - 1) - 1)
 
 -- entry k of a table, of one byte each or of two
@@ -68,4 +68,4 @@ sizeIndex s l = if eqb s 2 then l - 3 else l
 
 -- what the tables say of row i: its tag, 0 where it has none, how many rows it is made of, and these
 unfoldable pub rowRecord : ℕ → ℕ → ℕ → List ℕ
-rowRecord s l i = affine s l .tagOfRow i ∷ length (affine s l .made i) ∷ affine s l .made i
+rowRecord s l i = affineFamily s l .tagOfRow i ∷ length (affineFamily s l .made i) ∷ affineFamily s l .made i

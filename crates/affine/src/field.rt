@@ -2,7 +2,7 @@
 ghost use mathlib.Core.Path.{_≡_};
 ghost use mathlib.Core.Bool.{true};
 ghost use Prim.Native.Nat.{_^_, _<_};
-ghost use Rattle.affine.specs.Field.{offered, polynomial, timesX, product, inverse};
+ghost use Rattle.affine.specs.Field.{offered, polynomial, elementTimesX, product, elementInverse};
 
 // The polynomial.
 fn polynomial(s: usize) -> usize
@@ -23,7 +23,7 @@ pub fn elements(s: usize) -> usize
 fn times_x(s: usize, a: usize) -> usize
     requires { ⌜ offered s ≡ true ⌝ }
     requires { ⌜ a < 2 ^ s ⌝ }
-    ensures { λ r. ⌜ r ≡ timesX s a ⌝ }
+    ensures { λ r. ⌜ r ≡ elementTimesX s a ⌝ }
 {
     if a * 2 < elements(s) {
         return a * 2;
@@ -48,7 +48,7 @@ pub fn product(s: usize, a: usize, b: usize) -> usize
 pub fn inverse(s: usize, a: usize) -> usize
     requires { ⌜ offered s ≡ true ⌝ }
     requires { ⌜ a < 2 ^ s ⌝ }
-    ensures { λ r. ⌜ r ≡ inverse s a ⌝ }
+    ensures { λ r. ⌜ r ≡ elementInverse s a ⌝ }
 {
     let square = product(s, a, a);
     if s == 2 {

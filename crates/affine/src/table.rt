@@ -6,7 +6,7 @@ ghost use mathlib.Core.Bool.{true};
 ghost use Prim.Native.Nat.{_+_, _*_, _≤_, _<_};
 ghost use lib.ListN.{length, getD};
 ghost use Rattle.affine.specs.Lines.{points, pointOf};
-ghost use Rattle.affine.specs.Affine.{sized, rowCount, affine};
+ghost use Rattle.affine.specs.Affine.{sized, rowCount, affineFamily};
 ghost use Rattle.affine.specs.Walk.{rowAt, sizeIndex, rowRecord, entryOf, wideEntryOf};
 
 // Whether s and l are those of a size.
@@ -23,7 +23,7 @@ pub fn sized(s: usize, l: usize) -> bool
 // How many items there are (document 02: cards).
 pub fn items(s: usize, l: usize) -> usize
     requires { ⌜ sized s l ≡ true ⌝ }
-    ensures { λ r. ⌜ r ≡ affine s l .items ⌝ }
+    ensures { λ r. ⌜ r ≡ affineFamily s l .items ⌝ }
 {
     let q = field::elements(s);
     l + (q * q - 1)
@@ -32,7 +32,7 @@ pub fn items(s: usize, l: usize) -> usize
 // How many rows there are.
 pub fn rows(s: usize, l: usize) -> usize
     requires { ⌜ sized s l ≡ true ⌝ }
-    ensures { λ r. ⌜ r ≡ affine s l .rows ⌝ }
+    ensures { λ r. ⌜ r ≡ affineFamily s l .rows ⌝ }
 {
     l * (field::elements(s) - 1) + 1
 }
@@ -40,7 +40,7 @@ pub fn rows(s: usize, l: usize) -> usize
 // The disjunctness (document 02: limit).
 pub fn limit(s: usize, l: usize) -> usize
     requires { ⌜ sized s l ≡ true ⌝ }
-    ensures { λ r. ⌜ r ≡ affine s l .limit ⌝ }
+    ensures { λ r. ⌜ r ≡ affineFamily s l .limit ⌝ }
 {
     l - 2
 }
@@ -81,7 +81,7 @@ fn wide_entry(t: &[u8], k: usize) -> usize
 // How many tags there are.
 pub fn tags(s: usize, l: usize) -> usize
     requires { ⌜ sized s l ≡ true ⌝ }
-    ensures { λ r. ⌜ r ≡ affine s l .tags ⌝ }
+    ensures { λ r. ⌜ r ≡ affineFamily s l .tags ⌝ }
 {
     entry(b"\x08\x09\x09\x13\x17\x18\x19\x1a\x1b\x1b", index(s, l))
 }

@@ -12,8 +12,8 @@ ghost use lib.ListN.{length, getD, drop};
 ghost use Rattle.incidence.specs.Family.{rowsOf, itemsOf};
 ghost use Rattle.affine.specs.Field.{offered};
 ghost use Rattle.affine.specs.Lines.{chosen, crossing, lineOf};
-ghost use Rattle.affine.specs.Affine.{sized, affine};
-ghost use Rattle.affine.specs.Walk.{firsts, courseOf, placeOn, rowsMet, chosenAt, dual, itemCount, itemAt};
+ghost use Rattle.affine.specs.Affine.{sized, affineFamily};
+ghost use Rattle.affine.specs.Walk.{firsts, courseOf, placeOn, rowsMet, chosenAt, dual, throughCount, throughAt};
 
 // ---- lines
 
@@ -120,8 +120,8 @@ fn write_rows(s: usize, l: usize, course: Course, out: &mut [usize]) -> usize
 pub fn rows_of(s: usize, l: usize, j: usize, out: &mut [usize]) -> usize
     requires { ⌜ sized s l ≡ true ⌝ }
     requires { ⌜ 9 ≤ length (now out) ⌝ }
-    ensures written { λ _. ⌜ now (out .exit) ≡ rowsOf (affine s l) j ++ drop (length (rowsOf (affine s l) j)) (now (out .entry)) ⌝ }
-    ensures count { λ r. ⌜ r ≡ length (rowsOf (affine s l) j) ⌝ }
+    ensures written { λ _. ⌜ now (out .exit) ≡ rowsOf (affineFamily s l) j ++ drop (length (rowsOf (affineFamily s l) j)) (now (out .entry)) ⌝ }
+    ensures count { λ r. ⌜ r ≡ length (rowsOf (affineFamily s l) j) ⌝ }
 {
     if incidence::inside(table::items(s, l), j) {
         write_rows(s, l, course_of(s, line_of(s, l, j)), out)
@@ -163,7 +163,7 @@ fn dual(s: usize, p: usize) -> Line
 // How many items there are through point p: at the origin the chosen lines, elsewhere one of them and 2^s others.
 fn item_count(s: usize, l: usize, p: usize) -> usize
     requires { ⌜ offered s ≡ true ⌝ }
-    ensures { λ r. ⌜ r ≡ itemCount s l p ⌝ }
+    ensures { λ r. ⌜ r ≡ throughCount s l p ⌝ }
 {
     if p == 1 { l } else { field::elements(s) + 1 }
 }
@@ -171,8 +171,8 @@ fn item_count(s: usize, l: usize, p: usize) -> usize
 // The item at place k, from 0, of those through point p, whose dual line is solved.
 fn item_at(s: usize, l: usize, p: usize, course: Course, k: usize) -> usize
     requires { ⌜ sized s l ≡ true ⌝ }
-    requires { ⌜ (1 ≤ p) × (course ≡ courseOf s (dual s p)) × (k < itemCount s l p) ⌝ }
-    ensures { λ r. ⌜ r ≡ itemAt s l p k ⌝ }
+    requires { ⌜ (1 ≤ p) × (course ≡ courseOf s (dual s p)) × (k < throughCount s l p) ⌝ }
+    ensures { λ r. ⌜ r ≡ throughAt s l p k ⌝ }
 {
     if p == 1 {
         return k + 1;
@@ -188,8 +188,8 @@ fn write_items(s: usize, l: usize, p: usize, course: Course, out: &mut [usize]) 
     requires { ⌜ sized s l ≡ true ⌝ }
     requires { ⌜ (1 ≤ p) × (course ≡ courseOf s (dual s p)) ⌝ }
     requires { ⌜ 9 ≤ length (now out) ⌝ }
-    ensures written { λ _. ⌜ now (out .exit) ≡ firsts (itemAt s l p) (itemCount s l p) ++ drop (itemCount s l p) (now (out .entry)) ⌝ }
-    ensures count { λ r. ⌜ r ≡ itemCount s l p ⌝ }
+    ensures written { λ _. ⌜ now (out .exit) ≡ firsts (throughAt s l p) (throughCount s l p) ++ drop (throughCount s l p) (now (out .entry)) ⌝ }
+    ensures count { λ r. ⌜ r ≡ throughCount s l p ⌝ }
 {
     let n = item_count(s, l, p);
     let mut k = 0;
@@ -204,8 +204,8 @@ fn write_items(s: usize, l: usize, p: usize, course: Course, out: &mut [usize]) 
 pub fn items_of(s: usize, l: usize, i: usize, out: &mut [usize]) -> usize
     requires { ⌜ sized s l ≡ true ⌝ }
     requires { ⌜ 9 ≤ length (now out) ⌝ }
-    ensures written { λ _. ⌜ now (out .exit) ≡ itemsOf (affine s l) i ++ drop (length (itemsOf (affine s l) i)) (now (out .entry)) ⌝ }
-    ensures count { λ r. ⌜ r ≡ length (itemsOf (affine s l) i) ⌝ }
+    ensures written { λ _. ⌜ now (out .exit) ≡ itemsOf (affineFamily s l) i ++ drop (length (itemsOf (affineFamily s l) i)) (now (out .entry)) ⌝ }
+    ensures count { λ r. ⌜ r ≡ length (itemsOf (affineFamily s l) i) ⌝ }
 {
     if incidence::inside(table::rows(s, l), i) {
         let p = table::point_of(s, l, i);
@@ -220,7 +220,7 @@ pub fn items_of(s: usize, l: usize, i: usize, out: &mut [usize]) -> usize
 // The tag of row i, 0 where it has none.
 pub fn tag_of_row(s: usize, l: usize, i: usize) -> usize
     requires { ⌜ sized s l ≡ true ⌝ }
-    ensures { λ r. ⌜ r ≡ affine s l .tagOfRow i ⌝ }
+    ensures { λ r. ⌜ r ≡ affineFamily s l .tagOfRow i ⌝ }
 {
     if incidence::inside(table::rows(s, l), i) {
         table::record_at(s, l, i, 0)
@@ -232,7 +232,7 @@ pub fn tag_of_row(s: usize, l: usize, i: usize) -> usize
 // How many earlier rows row i is made of, 0 where it has a tag.
 pub fn made_count(s: usize, l: usize, i: usize) -> usize
     requires { ⌜ sized s l ≡ true ⌝ }
-    ensures { λ r. ⌜ r ≡ length (affine s l .made i) ⌝ }
+    ensures { λ r. ⌜ r ≡ length (affineFamily s l .made i) ⌝ }
 {
     if incidence::inside(table::rows(s, l), i) {
         table::record_at(s, l, i, 1)
@@ -244,7 +244,7 @@ pub fn made_count(s: usize, l: usize, i: usize) -> usize
 // The row at place k, from 0, among those that row i is made of.
 pub fn made_at(s: usize, l: usize, i: usize, k: usize) -> usize
     requires { ⌜ sized s l ≡ true ⌝ }
-    ensures { λ r. ⌜ r ≡ getD (affine s l .made i) k 0 ⌝ }
+    ensures { λ r. ⌜ r ≡ getD (affineFamily s l .made i) k 0 ⌝ }
 {
     if k < made_count(s, l, i) {
         table::record_at(s, l, i, 2 + k)

@@ -1,5 +1,5 @@
 -- The laws of `count` and `any`.
-use Rattle.fips197.proofs.Kit.{_≡_, refl, sym, ap, ap₂, subst, Bool, true, false, not, _&&_, _||_, true≢false, _⊎_, inl, inr, ℕ, zero, suc, _+_, _-_, _≤_, _<_, arith, ltb, leb, ltb-true, ltb-false, leb-true, le-leb}
+use Rattle.fips197.proofs.Kit.{_≡_, refl, sym, ap, ap₂, _∙_, subst, Bool, true, false, not, _&&_, _||_, true≢false, _⊎_, inl, inr, ℕ, zero, suc, _+_, _-_, _≤_, _<_, arith, ltb, leb, ltb-true, ltb-false, leb-true, le-leb}
 use Rattle.incidence.specs.Count.{indicator, countUpTo, anyUpTo, inside}
 use Rattle.incidence.proofs.Booleans.{and-left, and-right, and-both, or-cases, or-first, or-second, not-passed}
 
@@ -25,6 +25,10 @@ inside-high n i h = leb-true i n (and-right (leb 1 i) (leb i n) h)
 
 pub inside-yes : (n i : ℕ) → 1 ≤ i → i ≤ n → inside n i ≡ true
 inside-yes n i l u = and-both (le-leb 1 i l) (le-leb i n u)
+
+-- the code's test of a number, by another name of the bound
+pub inside-of : {m n : ℕ} {r b : Bool} (i : ℕ) → m ≡ n → r ≡ inside m i → r ≡ b → inside n i ≡ b
+inside-of i e f g = ap (λ (x : ℕ). inside x i) (sym e) ∙ sym f ∙ g
 
 -- ---- counts
 

@@ -1,5 +1,5 @@
--- The laws of `listed`: its length is the count, its members are those that pass, and they rise.
-use Rattle.fips197.proofs.Kit.{_≡_, refl, sym, ap, ap₂, _∙_, subst, Bool, true, false, List, [], _∷_, _++_, _⊎_, inl, inr, ℕ, zero, suc, _+_, _-_, _≤_, _<_, arith, length, getD, length-append, List·getD-append, getD-at}
+-- The laws of `listed`: its length is the count, its members are those that pass, and they rise. And what is left of a list in a buffer.
+use Rattle.fips197.proofs.Kit.{_≡_, refl, sym, ap, ap₂, _∙_, subst, Bool, true, false, List, [], _∷_, _++_, _⊎_, inl, inr, ℕ, zero, suc, _+_, _-_, _≤_, _<_, arith, length, getD, drop, length-append, List·getD-append, getD-at}
 use Rattle.blocks.specs.Block.{if_then_else_}
 use Rattle.incidence.specs.Count.{indicator, countUpTo, listed}
 use Rattle.incidence.specs.Family.{Family, rowsOf, itemsOf}
@@ -71,3 +71,15 @@ module _ (F : Family) (j k : ℕ) where
   pub itemsOf-at : k < length (itemsOf F j) → Member (F .on j) (F .items) k (getD (itemsOf F j) k 0)
   unfolding itemsOf
   itemsOf-at h = listed-at (F .on j) (F .items) k (omega (arith, listed-length (F .on j) (F .items)))
+
+pub none-listed : (p : ℕ → Bool) (n : ℕ) → ((i : ℕ) → p i ≡ false) → listed p n ≡ []
+none-listed p zero h = refl
+none-listed p (suc n) h = rw (h (suc n)) (none-listed p n h)
+
+-- what a walk leaves in a buffer, by another name of the list or for none
+pub written-as : (o : List ℕ) {l w out : List ℕ} {n : ℕ} → w ≡ l → (out ≡ w ++ drop (length w) o) × (n ≡ length w)
+    → (out ≡ l ++ drop (length l) o) × (n ≡ length l)
+written-as o {l} {w} {out} {n} e h = subst (λ (x : List ℕ). (out ≡ x ++ drop (length x) o) × (n ≡ length x)) e h
+
+pub written-none : (o : List ℕ) {l : List ℕ} → l ≡ [] → (o ≡ l ++ drop (length l) o) × (0 ≡ length l)
+written-none o e = written-as o (sym e) (refl, refl)

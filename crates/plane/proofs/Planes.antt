@@ -5,7 +5,7 @@ use Rattle.incidence.specs.Count.{countUpTo}
 use Rattle.incidence.specs.Family.{Disjunct, Lawful}
 use Rattle.incidence.proofs.Pigeonhole.{pigeonhole}
 use Rattle.plane.specs.Table.{planeItems, planeTags, planeLimit, differences, planePattern}
-use Rattle.plane.specs.Plane.{plane, tagged, pairs, on}
+use Rattle.plane.specs.Plane.{plane, tagged, pairs}
 use Rattle.plane.proofs.Cyclic.{Rules, once-at, column-weight, row-weight, columns-share, rows-share, pattern-yields, made-earlier}
 use Rattle.plane.proofs.Rules.{rules}
 

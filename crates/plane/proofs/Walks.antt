@@ -1,11 +1,11 @@
 -- Where the rows of an item and the items of a row stand, in rising order, by ranks in the difference list.
-use Rattle.fips197.proofs.Kit.{_≡_, refl, sym, ap, _∙_, subst, Bool, true, false, _&&_, List, [], _++_, map, ℕ, zero, suc, _+_, _-_, _≤_, _<_, _%_, add-mod-right, mod-eq-of-lt, arith, ltb, leb, length, getD, drop, length-map, ltb-true, ltb-false, leb-true, leb-false, lt-ltb, le-ltb, le-leb, lt-leb}
+use Rattle.fips197.proofs.Kit.{_≡_, refl, sym, ap, _∙_, subst, Bool, true, false, _&&_, List, [], map, ℕ, suc, _+_, _-_, _≤_, _<_, _%_, add-mod-right, mod-eq-of-lt, arith, ltb, leb, length, getD, length-map, ltb-true, ltb-false, leb-true, leb-false, lt-ltb, le-ltb, le-leb, lt-leb}
 use Rattle.blocks.specs.Block.{if_then_else_}
 use Rattle.blocks.proofs.Loop.{map-at}
 use Rattle.incidence.specs.Count.{indicator, countUpTo, listed, inside}
 use Rattle.incidence.specs.Family.{rowsOf, itemsOf}
 use Rattle.incidence.proofs.Counting.{inside-low, inside-high, count-ext}
-use Rattle.incidence.proofs.Listing.{Member, itemsOf-at, listed-at, listed-length, listed-rank}
+use Rattle.incidence.proofs.Listing.{Member, itemsOf-at, listed-at, listed-length, listed-rank, none-listed}
 use Rattle.plane.specs.Table.{planeItems, planeTags, planeLimit, differences, planePattern}
 use Rattle.plane.specs.Plane.{member, on, made, tagged, plane}
 use Rattle.plane.specs.Walk.{Walk, along}
@@ -139,10 +139,6 @@ on-no-item m D i j e = rw e (go (inside m i))
     go true = refl
     go false = refl
 
-none-listed : (p : ℕ → Bool) (n : ℕ) → ((i : ℕ) → p i ≡ false) → listed p n ≡ []
-none-listed p zero h = refl
-none-listed p (suc n) h = rw (h (suc n)) (none-listed p n h)
-
 module _ (s j : ℕ) (out : inside (planeItems s) j ≡ false) where
   pub rows-out : rowsOf (plane s) j ≡ []
   unfolding plane rowsOf
@@ -251,14 +247,6 @@ row-list-few s j =
     omega (arith, few-along s (planeItems s + 1 - j) (omega arith) (omega arith) true, ap (λ (x : ℕ). length (rowsOf (plane s) x)) e))
     (λ e. omega (arith, ap length (rows-out s j e)))
 
--- what the walk leaves in a buffer, by another name of the list or for none
-pub written-as : (o : List ℕ) {l w out : List ℕ} {n : ℕ} → w ≡ l → (out ≡ w ++ drop (length w) o) × (n ≡ length w)
-    → (out ≡ l ++ drop (length l) o) × (n ≡ length l)
-written-as o {l} {w} {out} {n} e h = subst (λ (x : List ℕ). (out ≡ x ++ drop (length x) o) × (n ≡ length x)) e h
-
-pub written-none : (o : List ℕ) {l : List ℕ} → l ≡ [] → (o ≡ l ++ drop (length l) o) × (0 ≡ length l)
-written-none o e = written-as o (sym e) (refl, refl)
-
 -- ---- made rows
 
 module _ (s i : ℕ) where
@@ -310,9 +298,6 @@ module _ (s i : ℕ) where
         omega (arith, past, within-at (planeTags s) (planePattern s) (R .near) k made-place)
 
 -- ---- answers of the code's tests
-
-pub inside-of : (m n i : ℕ) (r b : Bool) → m ≡ n → r ≡ inside m i → r ≡ b → inside n i ≡ b
-inside-of m n i r b e f g = ap (λ (x : ℕ). inside x i) (sym e) ∙ sym f ∙ g
 
 pub tag-yes : (t u i : ℕ) → u ≡ t → i ≤ u → i ≡ tagged t i
 unfolding tagged

@@ -1,6 +1,6 @@
 -- What a crate above may use of the size codes: every known code's family is lawful, the numbers are small, and a code that is none has
 -- nothing. It needs nothing of planes and lines.
-use Rattle.fips197.proofs.Kit.{_≡_, refl, ap, _∙_, subst, sym, Bool, true, false, List, _++_, _⊎_, inl, inr, ℕ, zero, suc, _/_, _%_, _≤_, _<_, arith, leb, length, getD, drop, List·getD-append, leb-true, leb-false}
+use Rattle.fips197.proofs.Kit.{_≡_, refl, ap, _∙_, sym, Bool, true, false, List, _++_, _⊎_, inl, inr, ℕ, zero, suc, _/_, _%_, _≤_, _<_, arith, leb, length, getD, drop, List·getD-append, leb-true, leb-false}
 use Rattle.blocks.specs.Block.{if_then_else_}
 use Rattle.incidence.specs.Count.{inside}
 use Rattle.incidence.specs.Family.{Family, Lawful, rowsOf, itemsOf}
@@ -11,7 +11,7 @@ use Rattle.plane.specs.Plane.{plane}
 use Rattle.plane.proofs.Planes as planes
 use Rattle.plane.proofs.Walks as walks
 use Rattle.plane.proofs.Lookup.{items-most, tags-most, limit-most, no-items, no-tags, no-limit}
-use Rattle.affine.specs.Affine.{sized, affine}
+use Rattle.affine.specs.Affine.{sized, affineFamily}
 use Rattle.affine.proofs.Computing.{of-both, sized-offered}
 use Rattle.affine.proofs.Affines as affines
 use Rattle.sizes.specs.Sizes.{affineCode, known, familyOf}
@@ -19,11 +19,11 @@ use Rattle.sizes.specs.Sizes.{affineCode, known, familyOf}
 -- ---- by kind
 
 -- what holds of an affine size's family and of a plane holds of the code's
-by-kind : (P : Family → Type 0) (c : ℕ) → (affineCode c ≡ true → P (affine (c / 16) (c % 16))) → (affineCode c ≡ false → P (plane c)) → P (familyOf c)
+by-kind : (P : Family → Type 0) (c : ℕ) → (affineCode c ≡ true → P (affineFamily (c / 16) (c % 16))) → (affineCode c ≡ false → P (plane c)) → P (familyOf c)
 unfolding familyOf
 by-kind P c f g = go (affineCode c) refl
   where
-    go : (b : Bool) → affineCode c ≡ b → P (if b then affine (c / 16) (c % 16) else plane c)
+    go : (b : Bool) → affineCode c ≡ b → P (if b then affineFamily (c / 16) (c % 16) else plane c)
     go true e = f e
     go false e = g e
 
@@ -33,7 +33,7 @@ module _ (c : ℕ) {s l : ℕ} {r : Bool} (e : r ≡ affineCode c) where
   unfolding affineCode
   affine-size t p q = rw (p, q) (sym e ∙ t)
 
-  pub affine-family : r ≡ true → s ≡ c / 16 → l ≡ c % 16 → affine s l ≡ familyOf c
+  pub affine-family : r ≡ true → s ≡ c / 16 → l ≡ c % 16 → affineFamily s l ≡ familyOf c
   unfolding familyOf
   affine-family t p q = rw (p, q, sym e ∙ t)
 
@@ -126,8 +126,3 @@ item-list-few c i =
 
 pub written-at : (l was : List ℕ) {now : List ℕ} {n : ℕ} → (now ≡ l ++ drop (length l) was) × (n ≡ length l) → (k : ℕ) → k < n → getD now k 0 ≡ getD l k 0
 written-at l was w k h = ap (λ (x : List ℕ). getD x k 0) (w .0) ∙ List·getD-append l (drop (length l) was) 0 k (omega (arith, w .1))
-
--- what one family's walk leaves in a buffer, another's that is the same does
-pub written-by : (list : Family → List ℕ) (o : List ℕ) {E F : Family} {out : List ℕ} {n : ℕ} → E ≡ F
-    → (out ≡ list E ++ drop (length (list E)) o) × (n ≡ length (list E)) → (out ≡ list F ++ drop (length (list F)) o) × (n ≡ length (list F))
-written-by list o {E} {F} {out} {n} e = subst (λ (G : Family). (out ≡ list G ++ drop (length (list G)) o) × (n ≡ length (list G))) e

@@ -6,7 +6,7 @@ use Rattle.blocks.specs.Block.{if_then_else_}
 use Rattle.incidence.specs.Count.{inside}
 use Rattle.incidence.specs.Family.{Family}
 use Rattle.plane.specs.Plane.{plane}
-use Rattle.affine.specs.Affine.{sized, affine}
+use Rattle.affine.specs.Affine.{sized, affineFamily}
 
 -- whether c is the code of an affine size: "the size code is 16s+l"
 unfoldable pub affineCode : ℕ → Bool
@@ -19,4 +19,4 @@ known c = inside 4 c || affineCode c
 -- the family of a size code: the affine one whose s and l it gives, or the plane whose s it is. A code that is none has no items, no rows
 -- and no tags.
 unfoldable pub familyOf : ℕ → Family
-familyOf c = if affineCode c then affine (c / 16) (c % 16) else plane c
+familyOf c = if affineCode c then affineFamily (c / 16) (c % 16) else plane c

@@ -18,8 +18,8 @@ fn exponent(code: u64) -> usize
     (code / 16) as usize
 }
 
-// And l.
-fn lines(code: u64) -> usize
+// And l, the number of chosen lines.
+fn chosen_lines(code: u64) -> usize
     ensures { λ r. ⌜ r ≡ code % 16 ⌝ }
 {
     (code % 16) as usize
@@ -29,7 +29,7 @@ fn lines(code: u64) -> usize
 fn is_affine(code: u64) -> bool
     ensures { λ r. ⌜ r ≡ affineCode code ⌝ }
 {
-    affine::table::sized(exponent(code), lines(code))
+    affine::table::sized(exponent(code), chosen_lines(code))
 }
 
 // Whether a number is a size code.
@@ -47,7 +47,7 @@ pub fn items(code: u64) -> usize
     ensures { λ r. ⌜ r ≡ familyOf code .items ⌝ }
 {
     if is_affine(code) {
-        return affine::table::items(exponent(code), lines(code));
+        return affine::table::items(exponent(code), chosen_lines(code));
     }
     plane::table::items(code as usize)
 }
@@ -57,7 +57,7 @@ pub fn rows(code: u64) -> usize
     ensures { λ r. ⌜ r ≡ familyOf code .rows ⌝ }
 {
     if is_affine(code) {
-        return affine::table::rows(exponent(code), lines(code));
+        return affine::table::rows(exponent(code), chosen_lines(code));
     }
     plane::table::items(code as usize)
 }
@@ -67,7 +67,7 @@ pub fn tags(code: u64) -> usize
     ensures { λ r. ⌜ r ≡ familyOf code .tags ⌝ }
 {
     if is_affine(code) {
-        return affine::table::tags(exponent(code), lines(code));
+        return affine::table::tags(exponent(code), chosen_lines(code));
     }
     plane::table::tags(code as usize)
 }
@@ -77,7 +77,7 @@ pub fn limit(code: u64) -> usize
     ensures { λ r. ⌜ r ≡ familyOf code .limit ⌝ }
 {
     if is_affine(code) {
-        return affine::table::limit(exponent(code), lines(code));
+        return affine::table::limit(exponent(code), chosen_lines(code));
     }
     plane::table::limit(code as usize)
 }
@@ -88,7 +88,7 @@ pub fn rows_of(code: u64, item: usize, out: &mut [usize; MOST]) -> usize
     ensures count { λ r. ⌜ r ≡ length (rowsOf (familyOf code) item) ⌝ }
 {
     if is_affine(code) {
-        return affine::walk::rows_of(exponent(code), lines(code), item, out);
+        return affine::walk::rows_of(exponent(code), chosen_lines(code), item, out);
     }
     plane::walk::rows_of(code as usize, item, out)
 }
@@ -99,7 +99,7 @@ pub fn items_of(code: u64, row: usize, out: &mut [usize; MOST]) -> usize
     ensures count { λ r. ⌜ r ≡ length (itemsOf (familyOf code) row) ⌝ }
 {
     if is_affine(code) {
-        return affine::walk::items_of(exponent(code), lines(code), row, out);
+        return affine::walk::items_of(exponent(code), chosen_lines(code), row, out);
     }
     plane::walk::items_of(code as usize, row, out)
 }
@@ -109,7 +109,7 @@ pub fn tag_of_row(code: u64, row: usize) -> usize
     ensures { λ r. ⌜ r ≡ familyOf code .tagOfRow row ⌝ }
 {
     if is_affine(code) {
-        return affine::walk::tag_of_row(exponent(code), lines(code), row);
+        return affine::walk::tag_of_row(exponent(code), chosen_lines(code), row);
     }
     plane::walk::tag_of_row(code as usize, row)
 }
@@ -119,7 +119,7 @@ pub fn made_count(code: u64, row: usize) -> usize
     ensures { λ r. ⌜ r ≡ length (familyOf code .made row) ⌝ }
 {
     if is_affine(code) {
-        return affine::walk::made_count(exponent(code), lines(code), row);
+        return affine::walk::made_count(exponent(code), chosen_lines(code), row);
     }
     plane::walk::made_count(code as usize, row)
 }
@@ -129,7 +129,7 @@ pub fn made_at(code: u64, row: usize, k: usize) -> usize
     ensures { λ r. ⌜ r ≡ getD (familyOf code .made row) k 0 ⌝ }
 {
     if is_affine(code) {
-        return affine::walk::made_at(exponent(code), lines(code), row, k);
+        return affine::walk::made_at(exponent(code), chosen_lines(code), row, k);
     }
     plane::walk::made_at(code as usize, row, k)
 }

@@ -6,7 +6,7 @@ use Rattle.sizes.proofs.is_affine.Tie as tie
 
 returns : tie.Need-returns
 unfolding affineCode
-returns c = rw (c .sized .ensures, c .before .before .exponent .ensures, c .before .lines .ensures)
+returns c = rw (c .sized .ensures, c .before .before .exponent .ensures, c .before .chosen-lines .ensures)
 
 pub is-affine-spec : {M : Type 1} → statement M
 is-affine-spec = tie.close (tie.spec (λ c κs. search needs) (λ c κs. search needs) (λ c κs. search needs) returns)

@@ -1,7 +1,8 @@
 -- The affine size's or the plane's (Laws).
-use Rattle.fips197.proofs.Kit.{needs}
-use Rattle.incidence.specs.Family.{itemsOf}
-use Rattle.sizes.proofs.Laws.{affine-size, affine-family, plane-family, written-by}
+use Rattle.fips197.proofs.Kit.{ap, needs}
+use Rattle.incidence.specs.Family.{Family, itemsOf}
+use Rattle.incidence.proofs.Listing.{written-as}
+use Rattle.sizes.proofs.Laws.{affine-size, affine-family, plane-family}
 use Rattle.sizes.proofs.items_of.Statement.{statement}
 use Rattle.sizes.proofs.items_of.Tie as tie
 
@@ -9,21 +10,21 @@ items-of-requires : tie.Need-items-of-requires
 items-of-requires c κs =
     let l = c .before in
     let t = l .before .before in
-    (affine-size (t .before .before .args .code) (t .before .is-affine .ensures) (t .if1 .taken) (l .before .exponent .ensures) (l .lines .ensures), search needs)
+    (affine-size (t .before .before .args .code) (t .before .is-affine .ensures) (t .if1 .taken) (l .before .exponent .ensures) (l .chosen-lines .ensures), search needs)
 
 returns : tie.Need-returns
 returns c =
     let l = c .before .before in
     let t = l .before .before in
     let a = t .before .before .args in
-    written-by (λ F. itemsOf F (a .row)) (a .out .now)
-    (affine-family (a .code) (t .before .is-affine .ensures) (t .if1 .taken) (l .before .exponent .ensures) (l .lines .ensures)) (c .items-of .ensures)
+    written-as (a .out .now)
+    (ap (λ (F : Family). itemsOf F (a .row)) (affine-family (a .code) (t .before .is-affine .ensures) (t .if1 .taken) (l .before .exponent .ensures) (l .chosen-lines .ensures))) (c .items-of .ensures)
 
 returns-2 : tie.Need-returns-2
 returns-2 c =
     let t = c .before .before in
     let a = t .before .before .args in
-    written-by (λ F. itemsOf F (a .row)) (a .out .now) (plane-family (a .code) (t .before .is-affine .ensures) (t .if1 .left)) (c .items-of2 .ensures)
+    written-as (a .out .now) (ap (λ (F : Family). itemsOf F (a .row)) (plane-family (a .code) (t .before .is-affine .ensures) (t .if1 .left))) (c .items-of2 .ensures)
 
 pub items-of-spec : {M : Type 1} → statement M
 items-of-spec =

@@ -8,7 +8,7 @@ use Rattle.sizes.proofs.made_at.Tie as tie
 made-at-requires : tie.Need-made-at-requires
 made-at-requires c κs =
     let t = c .before .before in
-    affine-size (t .before .before .args .code) (t .before .is-affine .ensures) (t .if1 .taken) (c .before .exponent .ensures) (c .lines .ensures)
+    affine-size (t .before .before .args .code) (t .before .is-affine .ensures) (t .if1 .taken) (c .before .exponent .ensures) (c .chosen-lines .ensures)
 
 returns : tie.Need-returns
 returns c =
@@ -16,7 +16,7 @@ returns c =
     let t = l .before .before in
     let a = t .before .before .args in
     c .made-at .ensures
-    ∙ ap (λ (F : Family). getD (F .made (a .row)) (a .k) 0) (affine-family (a .code) (t .before .is-affine .ensures) (t .if1 .taken) (l .before .exponent .ensures) (l .lines .ensures))
+    ∙ ap (λ (F : Family). getD (F .made (a .row)) (a .k) 0) (affine-family (a .code) (t .before .is-affine .ensures) (t .if1 .taken) (l .before .exponent .ensures) (l .chosen-lines .ensures))
 
 returns-2 : tie.Need-returns-2
 returns-2 c =

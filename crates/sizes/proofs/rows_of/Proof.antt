@@ -1,7 +1,8 @@
 -- The affine size's or the plane's (Laws).
-use Rattle.fips197.proofs.Kit.{needs}
-use Rattle.incidence.specs.Family.{rowsOf}
-use Rattle.sizes.proofs.Laws.{affine-size, affine-family, plane-family, written-by}
+use Rattle.fips197.proofs.Kit.{ap, needs}
+use Rattle.incidence.specs.Family.{Family, rowsOf}
+use Rattle.incidence.proofs.Listing.{written-as}
+use Rattle.sizes.proofs.Laws.{affine-size, affine-family, plane-family}
 use Rattle.sizes.proofs.rows_of.Statement.{statement}
 use Rattle.sizes.proofs.rows_of.Tie as tie
 
@@ -9,21 +10,21 @@ rows-of-requires : tie.Need-rows-of-requires
 rows-of-requires c κs =
     let l = c .before in
     let t = l .before .before in
-    (affine-size (t .before .before .args .code) (t .before .is-affine .ensures) (t .if1 .taken) (l .before .exponent .ensures) (l .lines .ensures), search needs)
+    (affine-size (t .before .before .args .code) (t .before .is-affine .ensures) (t .if1 .taken) (l .before .exponent .ensures) (l .chosen-lines .ensures), search needs)
 
 returns : tie.Need-returns
 returns c =
     let l = c .before .before in
     let t = l .before .before in
     let a = t .before .before .args in
-    written-by (λ F. rowsOf F (a .item)) (a .out .now)
-    (affine-family (a .code) (t .before .is-affine .ensures) (t .if1 .taken) (l .before .exponent .ensures) (l .lines .ensures)) (c .rows-of .ensures)
+    written-as (a .out .now)
+    (ap (λ (F : Family). rowsOf F (a .item)) (affine-family (a .code) (t .before .is-affine .ensures) (t .if1 .taken) (l .before .exponent .ensures) (l .chosen-lines .ensures))) (c .rows-of .ensures)
 
 returns-2 : tie.Need-returns-2
 returns-2 c =
     let t = c .before .before in
     let a = t .before .before .args in
-    written-by (λ F. rowsOf F (a .item)) (a .out .now) (plane-family (a .code) (t .before .is-affine .ensures) (t .if1 .left)) (c .rows-of2 .ensures)
+    written-as (a .out .now) (ap (λ (F : Family). rowsOf F (a .item)) (plane-family (a .code) (t .before .is-affine .ensures) (t .if1 .left))) (c .rows-of2 .ensures)
 
 pub rows-of-spec : {M : Type 1} → statement M
 rows-of-spec =

@@ -9,7 +9,7 @@ use Rattle.sizes.proofs.tags.Tie as tie
 tags-requires : tie.Need-tags-requires
 tags-requires c κs =
     let t = c .before .before in
-    affine-size (t .before .before .args .code) (t .before .is-affine .ensures) (t .if1 .taken) (c .before .exponent .ensures) (c .lines .ensures)
+    affine-size (t .before .before .args .code) (t .before .is-affine .ensures) (t .if1 .taken) (c .before .exponent .ensures) (c .chosen-lines .ensures)
 
 returns : tie.Need-returns
 returns c =
@@ -17,7 +17,7 @@ returns c =
     let t = l .before .before in
     let a = t .before .before .args in
     c .tags .ensures
-    ∙ ap (λ (F : Family). F .tags) (affine-family (a .code) (t .before .is-affine .ensures) (t .if1 .taken) (l .before .exponent .ensures) (l .lines .ensures))
+    ∙ ap (λ (F : Family). F .tags) (affine-family (a .code) (t .before .is-affine .ensures) (t .if1 .taken) (l .before .exponent .ensures) (l .chosen-lines .ensures))
 
 returns-2 : tie.Need-returns-2
 unfolding plane

@@ -1,7 +1,7 @@
 -- By the definition.
 use Rattle.fips197.proofs.Kit.{ap, _*_, _+_, _-_, _≤_, ℕ, arith}
-use Rattle.affine.specs.Lines.{points, cards}
-use Rattle.affine.specs.Affine.{affine}
+use Rattle.affine.specs.Lines.{points, affineItems}
+use Rattle.affine.specs.Affine.{affineFamily}
 use Rattle.affine.proofs.Computing.{points-few, elements-few, sized-offered, sized-high}
 use Rattle.affine.proofs.table.items.Statement.{statement}
 use Rattle.affine.proofs.table.items.Tie as tie
@@ -26,7 +26,7 @@ add-result c =
     omega (arith, square c .1, sized-high (a .s) (a .l) (c .before .pre), elements-few (a .s) (sized-offered _ _ (c .before .pre)) .1)
 
 returns : tie.Need-returns
-unfolding affine cards points
+unfolding affineFamily affineItems points
 returns c = ap (λ (q : ℕ). c .before .args .l + (q * q - 1)) (c .elements .ensures)
 
 pub items-spec : {M : Type 1} → statement M

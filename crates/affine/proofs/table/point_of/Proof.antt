@@ -1,7 +1,7 @@
 -- The size's part of the table (Tables).
 use Rattle.fips197.proofs.Kit.{refl, ap, _+_, _-_, _*_, _<_, ℕ, arith, needs}
-use Rattle.affine.specs.Field.{polynomial, timesX, productBy, product}
-use Rattle.affine.specs.Lines.{points, xOf, yOf, holds, chosen, isRow}
+use Rattle.affine.specs.Field.{polynomial, elementTimesX, productOver, product}
+use Rattle.affine.specs.Lines.{points, xOf, yOf, onLine, chosen, isRow}
 use Rattle.affine.specs.Walk.{sizeIndex}
 use Rattle.affine.proofs.Listings.{passing}
 use Rattle.affine.proofs.Tables.{pointsTest, begins, partTest, pointList, point-read, index-high, rows-high}
@@ -21,7 +21,7 @@ add-k : tie.Need-add-k
 add-k c = omega (arith, place c)
 
 returns : tie.Need-returns
-unfolding pointsTest partTest passing pointList sizeIndex begins points xOf yOf holds chosen isRow polynomial timesX productBy product
+unfolding pointsTest partTest passing pointList sizeIndex begins points xOf yOf onLine chosen isRow polynomial elementTimesX productOver product
 returns c =
     let d = c .before .before in
     let b = d .before in

@@ -1,9 +1,9 @@
 -- The row's part of the table (Tables).
 use Rattle.fips197.proofs.Kit.{refl, ap, _+_, _-_, _*_, _<_, ℕ, arith, needs}
-use Rattle.affine.specs.Field.{polynomial, timesX, productBy, product, power, inverse}
-use Rattle.affine.specs.Lines.{points, xOf, yOf, holds, chosen, cards, isRow}
+use Rattle.affine.specs.Field.{polynomial, elementTimesX, productOver, product, elementPower, elementInverse}
+use Rattle.affine.specs.Lines.{points, xOf, yOf, onLine, chosen, affineItems, isRow}
 use Rattle.affine.specs.Elimination.{has, greatest, add, reduced, reducedBy, remainderOf, next}
-use Rattle.affine.specs.Walk.{courseOf, placeOn, chosenAt, dual, itemCount, sizeIndex}
+use Rattle.affine.specs.Walk.{courseOf, placeOn, chosenAt, dual, throughCount, sizeIndex}
 use Rattle.affine.proofs.Listings.{passing}
 use Rattle.affine.proofs.Eliminated.{setUp, cardAlong, rowSet, goThrough, quickly}
 use Rattle.affine.proofs.Tables.{begins, recordsFrom, standTest, standAt, standFrom, recordsPart, recordsTest, record-read, record-few, index-high, rows-high}
@@ -23,7 +23,7 @@ add-entry c =
     omega (arith, c .before .wide-entry .ensures .1, p .2, record-few (b .args .s) (b .args .l) (b .pre .0) (b .args .i) (p .0) (p .1))
 
 returns : tie.Need-returns
-unfolding recordsTest recordsPart standFrom standAt standTest recordsFrom begins passing setUp cardAlong rowSet goThrough quickly courseOf placeOn chosenAt dual itemCount sizeIndex points xOf yOf holds chosen cards isRow polynomial timesX productBy product power inverse has greatest add reduced reducedBy remainderOf next
+unfolding recordsTest recordsPart standFrom standAt standTest recordsFrom begins passing setUp cardAlong rowSet goThrough quickly courseOf placeOn chosenAt dual throughCount sizeIndex points xOf yOf onLine chosen affineItems isRow polynomial elementTimesX productOver product elementPower elementInverse has greatest add reduced reducedBy remainderOf next
 returns c =
     let w = c .before .before in
     let x = w .before in

@@ -1,7 +1,7 @@
 -- By its tests.
 use Rattle.fips197.proofs.Kit.{_∙_, ap, ℕ, _+_, _-_, _^_, _≤_, _<_, arith, eq-eqb, ne-eqb, needs}
 use Rattle.affine.specs.declared.Course.{Course}
-use Rattle.affine.specs.Walk.{itemAt, itemCount, placeOn}
+use Rattle.affine.specs.Walk.{throughAt, throughCount, placeOn}
 use Rattle.affine.proofs.Computing.{points-few, elements-few, sized-offered, sized-high}
 use Rattle.affine.proofs.Steps.{start-low, place-few, count-few}
 use Rattle.affine.proofs.walk.item_at.Statement.{statement}
@@ -11,16 +11,16 @@ add-result : tie.Need-add-result
 add-result c = let b = c .before in omega (arith, b .pre .1 .2, count-few (b .args .s) (b .args .l) (b .args .p) (b .pre .0))
 
 returns : tie.Need-returns
-unfolding itemAt
+unfolding throughAt
 returns c = rw (eq-eqb _ _ (c .if1 .taken))
 
 returns-2 : tie.Need-returns-2
-unfolding itemAt
+unfolding throughAt
 returns-2 c = rw (ne-eqb _ _ (c .before .before .if1 .left), eq-eqb _ _ (c .before .if2 .taken)) (c .chosen-at .ensures)
 
 -- elsewhere the count is 2^s + 1, so k − 1 is a place
 place : (c : tie.Else2) → c .before .before .args .k - 1 < 2 ^ c .before .before .args .s
-unfolding itemCount
+unfolding throughCount
 place c =
     let b = c .before .before in
     let e : b .args .k < 2 ^ b .args .s + 1 = rw (ne-eqb _ 1 (c .before .if1 .left)) at (b .pre .1 .2) in
@@ -46,7 +46,7 @@ few c =
     omega (arith, sized-high (b .args .s) (b .args .l) (b .pre .0), elements-few (b .args .s) (sized-offered _ _ (b .pre .0)) .1)
 
 returns-3 : tie.Need-returns-3
-unfolding itemAt
+unfolding throughAt
 returns-3 c =
     let b = c .before .before .before in
     rw (ne-eqb _ 1 (c .before .before .if1 .left), ne-eqb _ 0 (c .before .if2 .left))

@@ -2,22 +2,22 @@
 use Rattle.fips197.proofs.Kit.{_≡_, sym, ap, _∙_, true, ℕ, _≤_, drop, _++_, needs}
 use Rattle.incidence.specs.Count.{inside}
 use Rattle.incidence.specs.Family.{itemsOf}
-use Rattle.incidence.proofs.Counting.{inside-low, inside-high}
+use Rattle.incidence.proofs.Listing.{written-as, written-none}
+use Rattle.incidence.proofs.Counting.{inside-low, inside-high, inside-of}
 use Rattle.affine.specs.Lines.{points}
-use Rattle.affine.specs.Affine.{rowCount, affine}
-use Rattle.affine.specs.Walk.{dual, courseOf, firsts, itemAt, itemCount}
+use Rattle.affine.specs.Affine.{rowCount, affineFamily}
+use Rattle.affine.specs.Walk.{dual, courseOf, firsts, throughAt, throughCount}
 use Rattle.affine.proofs.Computing.{sized-offered}
 use Rattle.affine.proofs.Meeting.{x-low, y-low}
 use Rattle.affine.proofs.Disjunct.{F}
 use Rattle.affine.proofs.Listings.{firsts-length}
 use Rattle.affine.proofs.Walks.{items-along, items-out, point-low, point-high}
-use Rattle.affine.proofs.Steps.{inside-of, written-as, written-none}
 use Rattle.affine.proofs.walk.items_of.Statement.{statement}
 use Rattle.affine.proofs.walk.items_of.Tie as tie
 
 -- the row is one
 row : (c : tie.Then1) → let b = c .before .before .before .before in inside (rowCount (b .args .s) (b .args .l)) (b .args .i) ≡ true
-unfolding affine
+unfolding affineFamily
 row c =
     let d = c .before .before in
     inside-of (d .before .before .args .i) (d .rows .ensures) (c .before .inside .ensures) (c .if1 .taken)
@@ -68,15 +68,15 @@ returns c =
     let i = b .args .i in
     let s = b .args .s in
     let l = b .args .l in
-    let f = itemAt s l (p .point-of .result) in
-    let n = itemCount s l (p .point-of .result) in
-    let e : firsts f n ≡ itemsOf (affine s l) i =
+    let f = throughAt s l (p .point-of .result) in
+    let n = throughCount s l (p .point-of .result) in
+    let e : firsts f n ≡ itemsOf (affineFamily s l) i =
     rw (p .point-of .ensures) (sym (items-along s l (b .pre .0) i (inside-low _ i (row t)) (inside-high _ i (row t)))) in
     written-as (b .args .out .now) e
     (w .write-items .ensures .0 ∙ ap (λ (k : ℕ). firsts f n ++ drop k (b .args .out .now)) (sym (firsts-length f n)), w .write-items .ensures .1 ∙ sym (firsts-length f n))
 
 returns-2 : tie.Need-returns-2
-unfolding affine
+unfolding affineFamily
 returns-2 c =
     let d = c .before .before in
     let b = d .before .before in

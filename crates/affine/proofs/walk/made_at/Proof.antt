@@ -1,6 +1,6 @@
 -- An entry of the row's record, or nothing behind its end.
 use Rattle.fips197.proofs.Kit.{_≡_, sym, ap, _∙_, ℕ, suc, arith, getD, _+_, _<_, _≤_, List·getD-eq-default, needs}
-use Rattle.affine.specs.Affine.{rowCount, affine}
+use Rattle.affine.specs.Affine.{rowCount, affineFamily}
 use Rattle.affine.specs.Walk.{rowRecord}
 use Rattle.affine.proofs.Tables.{record-few}
 use Rattle.affine.proofs.Steps.{made-somewhere}
@@ -34,7 +34,7 @@ returns c = c .record-at .ensures ∙ ap (λ (n : ℕ). getD (rowRecord (c .befo
 returns-2 : tie.Need-returns-2
 returns-2 c =
     let a = c .before .before .args in
-    sym (List·getD-eq-default (affine (a .s) (a .l) .made (a .i)) 0 (omega (arith, c .if1 .left, c .before .made-count .ensures)))
+    sym (List·getD-eq-default (affineFamily (a .s) (a .l) .made (a .i)) 0 (omega (arith, c .if1 .left, c .before .made-count .ensures)))
 
 pub made-at-spec : {M : Type 1} → statement M
 made-at-spec = tie.close (tie.spec (λ c κs. search needs) (λ c. omega (arith, few c)) record-at-requires returns returns-2)

@@ -1,14 +1,14 @@
 -- An entry of the row's record, or nothing where there is no such row (Steps).
 use Rattle.fips197.proofs.Kit.{sym, ap, arith, length, needs}
-use Rattle.incidence.proofs.Counting.{inside-low, inside-high}
-use Rattle.affine.specs.Affine.{affine}
+use Rattle.incidence.proofs.Counting.{inside-low, inside-high, inside-of}
+use Rattle.affine.specs.Affine.{affineFamily}
 use Rattle.affine.specs.Walk.{rowRecord}
-use Rattle.affine.proofs.Steps.{made-out, inside-of}
+use Rattle.affine.proofs.Steps.{made-out}
 use Rattle.affine.proofs.walk.made_count.Statement.{statement}
 use Rattle.affine.proofs.walk.made_count.Tie as tie
 
 record-at-requires : tie.Need-record-at-requires
-unfolding affine rowRecord
+unfolding affineFamily rowRecord
 record-at-requires c κs =
     let d = c .before .before in
     let i = d .before .args .i in
@@ -20,7 +20,7 @@ unfolding rowRecord
 returns c = c .record-at .ensures
 
 returns-2 : tie.Need-returns-2
-unfolding affine
+unfolding affineFamily
 returns-2 c =
     let d = c .before .before in
     sym (ap length (made-out (d .before .args .s) (d .before .args .l) (d .before .args .i) (inside-of (d .before .args .i) (d .rows .ensures) (c .before .inside .ensures) (c .if1 .left))))

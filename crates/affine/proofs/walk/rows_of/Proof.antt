@@ -2,19 +2,20 @@
 use Rattle.fips197.proofs.Kit.{_≡_, sym, true, _^_, needs}
 use Rattle.incidence.specs.Count.{inside}
 use Rattle.incidence.specs.Family.{rowsOf}
-use Rattle.incidence.proofs.Counting.{inside-low, inside-high}
-use Rattle.affine.specs.Lines.{cards}
-use Rattle.affine.specs.Affine.{affine}
+use Rattle.incidence.proofs.Listing.{written-as, written-none}
+use Rattle.incidence.proofs.Counting.{inside-low, inside-high, inside-of}
+use Rattle.affine.specs.Lines.{affineItems}
+use Rattle.affine.specs.Affine.{affineFamily}
 use Rattle.affine.specs.Walk.{rowsMet}
 use Rattle.affine.proofs.Computing.{sized-offered}
 use Rattle.affine.proofs.Walks.{card-proper, rows-along, rows-out}
-use Rattle.affine.proofs.Steps.{start-low, inside-of, written-as, written-none}
+use Rattle.affine.proofs.Steps.{start-low}
 use Rattle.affine.proofs.walk.rows_of.Statement.{statement}
 use Rattle.affine.proofs.walk.rows_of.Tie as tie
 
 -- the item is one
-item : (c : tie.Then1) → let b = c .before .before .before .before in inside (cards (b .args .s) (b .args .l)) (b .args .j) ≡ true
-unfolding affine
+item : (c : tie.Then1) → let b = c .before .before .before .before in inside (affineItems (b .args .s) (b .args .l)) (b .args .j) ≡ true
+unfolding affineFamily
 item c =
     let d = c .before .before in
     inside-of (d .before .before .args .j) (d .items .ensures) (c .before .inside .ensures) (c .if1 .taken)
@@ -45,12 +46,12 @@ returns c =
     let t = d .before .before in
     let b = t .before .before .before .before in
     let j = b .args .j in
-    let e : rowsMet (b .args .s) (b .args .l) (d .course-of .result) (2 ^ b .args .s) ≡ rowsOf (affine (b .args .s) (b .args .l)) j =
+    let e : rowsMet (b .args .s) (b .args .l) (d .course-of .result) (2 ^ b .args .s) ≡ rowsOf (affineFamily (b .args .s) (b .args .l)) j =
     rw (d .course-of .ensures, d .before .line-of .ensures) (sym (rows-along (b .args .s) (b .args .l) (b .pre .0) j (inside-low _ j (item t)) (inside-high _ j (item t)))) in
     written-as (b .args .out .now) e (w .write-rows .ensures)
 
 returns-2 : tie.Need-returns-2
-unfolding affine
+unfolding affineFamily
 returns-2 c =
     let d = c .before .before in
     let b = d .before .before in

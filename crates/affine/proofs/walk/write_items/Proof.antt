@@ -1,7 +1,7 @@
 -- Each turn stores one number (blocks, Loop).
 use Rattle.fips197.proofs.Kit.{_≡_, sym, _∙_, _-_, _≤_, arith, length, needs}
 use Rattle.blocks.proofs.Loop.{part, part-turn, part-front}
-use Rattle.affine.specs.Walk.{firsts, itemAt, itemCount}
+use Rattle.affine.specs.Walk.{firsts, throughAt, throughCount}
 use Rattle.affine.proofs.Computing.{sized-offered}
 use Rattle.affine.proofs.Listings.{firsts-length}
 use Rattle.affine.proofs.Steps.{firsts-at, count-few}
@@ -9,7 +9,7 @@ use Rattle.affine.proofs.walk.write_items.Statement.{statement}
 use Rattle.affine.proofs.walk.write_items.Tie as tie
 
 abbrev Inv-loop : tie.InvT-loop
-Inv-loop s l p course out₀ n k₀ out k = (k ≤ n) × (length out ≡ length out₀) × (out ≡ part k (firsts (itemAt s l p) (itemCount s l p)) out₀)
+Inv-loop s l p course out₀ n k₀ out k = (k ≤ n) × (length out ≡ length out₀) × (out ≡ part k (firsts (throughAt s l p) (throughCount s l p)) out₀)
 
 abbrev μ-loop : tie.MeasureT-loop
 μ-loop s l p course out₀ n k₀ out k = n - k
@@ -35,8 +35,8 @@ loop-again c =
     let d = l .before in
     let b = d .before .before in
     let k = l .loop .k in
-    let f = itemAt (b .args .s) (b .args .l) (b .args .p) in
-    let n = itemCount (b .args .s) (b .args .l) (b .args .p) in (
+    let f = throughAt (b .args .s) (b .args .l) (b .args .p) in
+    let n = throughCount (b .args .s) (b .args .l) (b .args .p) in (
       omega arith,
       search needs,
       part-turn k (firsts f n) (b .args .out .now) (l .loop .out) _ (l .loop .inv .2)
@@ -49,8 +49,8 @@ returns c =
     let l = c .before in
     let d = l .before in
     let b = d .before .before in
-    let f = itemAt (b .args .s) (b .args .l) (b .args .p) in
-    let n = itemCount (b .args .s) (b .args .l) (b .args .p) in
+    let f = throughAt (b .args .s) (b .args .l) (b .args .p) in
+    let n = throughCount (b .args .s) (b .args .l) (b .args .p) in
     (part-front n (l .loop .k) (firsts f n) (b .args .out .now) (l .loop .out) (l .loop .inv .2) (omega (arith, d .item-count .ensures)) (firsts-length f n), d .item-count .ensures)
 
 pub write-items-spec : {M : Type 1} → statement M

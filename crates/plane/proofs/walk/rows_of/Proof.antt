@@ -1,12 +1,13 @@
 -- The walk back along the row that stands as far from the end, or nothing where there is no such item (Walks).
 use Rattle.fips197.proofs.Kit.{_≡_, sym, ap, _∙_, _+_, _-_, arith, needs}
 use Rattle.incidence.specs.Family.{rowsOf}
-use Rattle.incidence.proofs.Counting.{inside-low, inside-high}
+use Rattle.incidence.proofs.Counting.{inside-low, inside-high, inside-of}
+use Rattle.incidence.proofs.Listing.{written-as, written-none}
 use Rattle.plane.specs.Table.{planeItems}
 use Rattle.plane.specs.Plane.{plane}
 use Rattle.plane.specs.Walk.{along}
 use Rattle.plane.proofs.Lookup.{items-most}
-use Rattle.plane.proofs.Walks.{inside-of, rows-out, written-as, written-none}
+use Rattle.plane.proofs.Walks.{rows-out}
 use Rattle.plane.proofs.walk.rows_of.Statement.{statement}
 use Rattle.plane.proofs.walk.rows_of.Tie as tie
 
@@ -38,7 +39,7 @@ returns c =
 returns-2 : tie.Need-returns-2
 returns-2 c =
     let b = c .before .before in
-    written-none (b .before .args .out .now) (rows-out _ _ (inside-of _ _ (b .before .args .j) _ _ (b .items .ensures) (c .before .inside .ensures) (c .if1 .left)))
+    written-none (b .before .args .out .now) (rows-out _ _ (inside-of (b .before .args .j) (b .items .ensures) (c .before .inside .ensures) (c .if1 .left)))
 
 pub rows-of-spec : {M : Type 1} → statement M
 rows-of-spec =
