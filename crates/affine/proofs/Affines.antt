@@ -2,8 +2,8 @@
 use Rattle.fips197.proofs.Kit.{_≡_, true, ℕ, _≤_, arith}
 use Rattle.incidence.specs.Family.{Lawful, rowsOf, itemsOf}
 use Rattle.incidence.proofs.Counting.{count-most}
-use Rattle.affine.specs.Lines.{affineItems}
-use Rattle.affine.specs.Affine.{sized, rowCount, isTagged, affineFamily}
+use Rattle.affine.specs.Lines.{affineItems, rowCount}
+use Rattle.affine.specs.Affine.{sized, isTagged, affineFamily}
 use Rattle.affine.proofs.Computing.{points-few, elements-few, sized-offered, sized-high}
 use Rattle.affine.proofs.Disjunct.{disjunct}
 use Rattle.affine.proofs.Tagging.{row-low, row-high, tag-back, tag-high, row-back, no-tag, made-earlier, made-adds-up}

@@ -1,31 +1,29 @@
 -- The affine family is (l − 2)-disjunct, argued once over s and l: two cards share at most one row, as their lines share at most one point;
 -- each card is on at least l − 1 rows, a chosen line by its 2^s points and a line ax + by = 1 by the chosen lines that it meets.
-use Rattle.fips197.proofs.Kit.{_≡_, refl, ap₂, Bool, true, false, not, _&&_, _||_, ℕ, _+_, _-_, _^_, _≤_, _<_, arith, eqb, leb, eqb-true, eqb-false, leb-true, leb-false, not-true}
+use Rattle.fips197.proofs.Kit.{_≡_, refl, ap₂, Bool, true, false, not, _&&_, ℕ, _+_, _-_, _^_, _≤_, _<_, arith, eqb, leb, eqb-true, eqb-false, leb-true, leb-false, not-true}
 use Rattle.incidence.specs.Count.{countUpTo}
 use Rattle.incidence.specs.Family.{Disjunct}
 use Rattle.incidence.proofs.Booleans.{and-left, and-right, and-both}
 use Rattle.incidence.proofs.Counting.{inside-yes, count-ext, count-split, any-some}
 use Rattle.incidence.proofs.Pigeonhole.{pigeonhole}
 use Rattle.affine.specs.Field.{elementInverse}
-use Rattle.affine.specs.Lines.{points, onLine, chosen, crossing, affineItems, lineOf, isRow, pointOf}
-use Rattle.affine.specs.Affine.{sized, rowCount, affineFamily}
+use Rattle.affine.specs.Lines.{points, onLine, chosen, crossing, affineItems, lineOf, isRow, pointOf, rowCount}
+use Rattle.affine.specs.Affine.{sized, affineFamily}
 use Rattle.affine.proofs.FieldLaws.{Field, field}
 use Rattle.affine.proofs.Counts.{count-all, count-listed, count-one, count-into}
-use Rattle.affine.proofs.Meeting.{pointAt, across, of-chosen, of-crossing, share-one-point, point-high, chosen-holds, same-place, one-along, meets, one-meets}
+use Rattle.affine.proofs.Computing.{sized-offered, sized-low, sized-high}
+use Rattle.affine.proofs.Meeting.{pointAt, across, of-chosen, of-crossing, share-one-point, pointAt-high, chosen-holds, same-place, one-along, meets, one-meets}
 
 module _ (s l : ℕ) (size : sized s l ≡ true) where
   -- what the size says: there is a field, and l runs from 3 to 2^s + 1
   pub F : Field s
-  unfolding sized
-  F = field s (and-left (eqb s 2 || eqb s 3) _ size)
+  F = field s (sized-offered s l size)
 
   least : 3 ≤ l
-  unfolding sized
-  least = leb-true 3 l (and-left (leb 3 l) _ (and-right (eqb s 2 || eqb s 3) _ size))
+  least = sized-low s l size
 
   pub most : l ≤ 2 ^ s + 1
-  unfolding sized
-  most = leb-true l (2 ^ s + 1) (and-right (leb 3 l) _ (and-right (eqb s 2 || eqb s 3) _ size))
+  most = sized-high s l size
 
   -- ---- rows as points
 
@@ -76,7 +74,7 @@ module _ (s l : ℕ) (size : sized s l ≡ true) where
         count-all (2 ^ s),
         count-into (λ k. true) (λ k. pointAt s (chosen s j) (k - 1)) (2 ^ s) (λ p. isRow s l p && onLine s (chosen s j) p) (points s)
             (λ k a b t. let h : onLine s (chosen s j) (pointAt s (chosen s j) (k - 1)) ≡ true = chosen-holds s F j (k - 1) in
-            (omega arith, point-high s F (chosen s j) (k - 1), and-both (is-row j _ lj uj h) h))
+            (omega arith, pointAt-high s F (chosen s j) (k - 1), and-both (is-row j _ lj uj h) h))
             (λ k i a b c d t r e.
             let z : k - 1 ≡ i - 1 = same-place s F j (k - 1) (i - 1) lj (omega arith) (omega arith) e in
             omega arith),
@@ -103,7 +101,7 @@ module _ (s l : ℕ) (size : sized s l ≡ true) where
       met k = pointAt s (chosen s k) (elementInverse s (across s (crossing s n) (chosen s k)))
 
       met-high : (k : ℕ) → met k ≤ points s
-      met-high k = point-high s F (chosen s k) (elementInverse s (across s (crossing s n) (chosen s k)))
+      met-high k = pointAt-high s F (chosen s k) (elementInverse s (across s (crossing s n) (chosen s k)))
 
       met-chosen : (k : ℕ) → onLine s (chosen s k) (met k) ≡ true
       met-chosen k = chosen-holds s F k (elementInverse s (across s (crossing s n) (chosen s k)))

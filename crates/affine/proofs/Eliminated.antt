@@ -6,9 +6,9 @@ use Rattle.blocks.proofs.Loop.{map-at}
 use Rattle.incidence.specs.Count.{listed}
 use Rattle.incidence.proofs.Listing.{listed-length}
 use Rattle.affine.specs.declared.Course.{Course}
-use Rattle.affine.specs.Lines.{points, onLine, affineItems, lineOf, isRow, pointOf}
+use Rattle.affine.specs.Lines.{points, onLine, affineItems, lineOf, isRow, pointOf, rowCount}
 use Rattle.affine.specs.Elimination.{setOf, Remainder, next, remainders}
-use Rattle.affine.specs.Affine.{sized, rowCount, itemsAt, eliminated}
+use Rattle.affine.specs.Affine.{sized, itemSet, eliminated}
 use Rattle.affine.specs.Walk.{firsts, courseOf, placeOn, chosenAt, dual, throughCount, throughAt}
 use Rattle.affine.proofs.Listings.{passing, passing-is}
 use Rattle.affine.proofs.Walks.{items-through, point-low, point-high, point-row}
@@ -80,8 +80,8 @@ unfoldable pub quickly : ℕ → ℕ → List Remainder
 quickly s l = goThrough (affineItems s l) [] 1 (map (rowSet s l) (passing (isRow s l) 1 (points s)))
 
 module _ (s l : ℕ) (size : sized s l ≡ true) where
-  row-set : (p : ℕ) → 1 ≤ p → p ≤ points s → isRow s l p ≡ true → rowSet s l p ≡ itemsAt s l p
-  unfolding rowSet cardAlong throughAt itemsAt
+  row-set : (p : ℕ) → 1 ≤ p → p ≤ points s → isRow s l p ≡ true → rowSet s l p ≡ itemSet s l p
+  unfolding rowSet cardAlong throughAt itemSet
   row-set p low high row =
       sym (setUp-firsts (throughAt s l p) (throughCount s l p))
       ∙ ap setAll (sym (items-through s l size p low high row))
@@ -90,8 +90,8 @@ module _ (s l : ℕ) (size : sized s l ≡ true) where
   pub quickly-is : quickly s l ≡ eliminated s l
   unfolding quickly eliminated remainders rowCount pointOf
   quickly-is =
-      gone-through (affineItems s l) (λ i. itemsAt s l (pointOf s l i)) sets 0 same
-      ∙ ap (remainders (affineItems s l) (λ i. itemsAt s l (pointOf s l i))) count
+      gone-through (affineItems s l) (λ i. itemSet s l (pointOf s l i)) sets 0 same
+      ∙ ap (remainders (affineItems s l) (λ i. itemSet s l (pointOf s l i))) count
     where
       pts : List ℕ
       pts = passing (isRow s l) 1 (points s)
@@ -105,7 +105,7 @@ module _ (s l : ℕ) (size : sized s l ≡ true) where
       count : 0 + length sets ≡ rowCount s l
       count = omega (arith, length-map pts (rowSet s l), long)
 
-      same : (k : ℕ) → k < length sets → getD sets k 0 ≡ itemsAt s l (pointOf s l (suc (0 + k)))
+      same : (k : ℕ) → k < length sets → getD sets k 0 ≡ itemSet s l (pointOf s l (suc (0 + k)))
       same k u =
           let e : suc (0 + k) - 1 ≡ k = omega arith in
           let few : suc (0 + k) ≤ rowCount s l = omega (arith, count) in

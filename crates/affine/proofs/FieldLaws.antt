@@ -140,8 +140,8 @@ field s h = go (or-cases (eqb s 2) (eqb s 3) h)
 -- ---- laws of any field
 
 -- two numbers whose XOR is 0 are the same
-pub xor-same : (a b : ℕ) → bitXor a b ≡ 0 → a ≡ b
-xor-same a b h = sym (xor-cancel a b) ∙ ap (λ (z : ℕ). bitXor z b) h
+pub xor-equal : (a b : ℕ) → bitXor a b ≡ 0 → a ≡ b
+xor-equal a b h = sym (xor-cancel a b) ∙ ap (λ (z : ℕ). bitXor z b) h
 
 module _ (s : ℕ) (F : Field s) where
   -- the laws that the record states on one side, on the other

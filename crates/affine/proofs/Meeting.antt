@@ -7,7 +7,7 @@ use Rattle.blocks.specs.Block.{if_then_else_}
 use Rattle.affine.specs.Field.{product, elementInverse}
 use Rattle.affine.specs.declared.Line.{Line}
 use Rattle.affine.specs.Lines.{points, xOf, yOf, onLine, chosen, crossing, affineItems, lineOf}
-use Rattle.affine.proofs.FieldLaws.{Field, xor-same, dist-left, one-right, zero-right, cancel}
+use Rattle.affine.proofs.FieldLaws.{Field, xor-equal, dist-left, one-right, zero-right, cancel}
 
 -- what stands on one side of an equation of sums can be taken to the other
 swap : (a b c d : ℕ) → bitXor a b ≡ bitXor c d → bitXor a c ≡ bitXor b d
@@ -154,7 +154,7 @@ module _ (s : ℕ) (F : Field s) where
       along =
           parallel (L .a) (L .b) (M .a) (M .b) (bitXor (xOf s p) (xOf s r)) (bitXor (yOf s p) (yOf s r))
           (xor-lt s (xOf s p) (xOf s r) (x-low p) (x-low r)) (xor-lt s (yOf s p) (yOf s r) (y-low p lp up) (y-low r lr ur))
-          (λ ex ey. ne (same-point p r lp lr (xor-same (xOf s p) (xOf s r) ex) (xor-same (yOf s p) (yOf s r) ey)))
+          (λ ex ey. ne (same-point p r lp lr (xor-equal (xOf s p) (xOf s r) ex) (xor-equal (yOf s p) (yOf s r) ey)))
           (direction L p r hl kl) (direction M p r hm km)
 
       other : (N : Line) → onLine s N p ≡ true → bitXor (product s (N .b) (yOf s p)) (product s (N .a) (xOf s p)) ≡ N .c
@@ -289,8 +289,8 @@ module _ (s : ℕ) (F : Field s) where
   -- ---- where lines meet
 
   -- the points of a line are among the points
-  pub point-high : (L : Line) (t : ℕ) → pointAt s L t ≤ points s
-  point-high L t = spot-high (product s (L .b) t) (product s (L .a) t) (F .small (L .b) t) (F .small (L .a) t)
+  pub pointAt-high : (L : Line) (t : ℕ) → pointAt s L t ≤ points s
+  pointAt-high L t = spot-high (product s (L .b) t) (product s (L .a) t) (F .small (L .b) t) (F .small (L .a) t)
 
   -- a chosen line holds its points
   pub chosen-holds : (k t : ℕ) → onLine s (chosen s k) (pointAt s (chosen s k) t) ≡ true
@@ -345,7 +345,7 @@ module _ (s : ℕ) (F : Field s) where
       P = crossing-proper n low high
 
       even : (m : ℕ) → across s (crossing s n) (chosen s m) ≡ 0 → product s (chosen s m .b) a ≡ product s (chosen s m .a) b
-      even m z = F .comm (chosen s m .b) a ∙ xor-same (product s a (chosen s m .b)) (product s b (chosen s m .a)) z ∙ F .comm b (chosen s m .a)
+      even m z = F .comm (chosen s m .b) a ∙ xor-equal (product s a (chosen s m .b)) (product s b (chosen s m .a)) z ∙ F .comm b (chosen s m .a)
 
   -- it meets each of the others
   pub meets : (n : ℕ) (M : Line) → (across s (crossing s n) M ≡ 0 → ⊥)
@@ -376,7 +376,7 @@ module _ (s : ℕ) (F : Field s) where
     where
       even : (m : ℕ) → onLine s (chosen s m) p ≡ true → product s (chosen s m .a) (xOf s p) ≡ product s (chosen s m .b) (yOf s p)
       even m g =
-          xor-same (product s (chosen s m .a) (xOf s p)) (product s (chosen s m .b) (yOf s p)) (held (chosen s m) p g ∙ chosen-through m)
+          xor-equal (product s (chosen s m .a) (xOf s p)) (product s (chosen s m .b) (yOf s p)) (held (chosen s m) p g ∙ chosen-through m)
 
       origin : xOf s p ≡ 0 → yOf s p ≡ 0 → ⊥
       origin x y =

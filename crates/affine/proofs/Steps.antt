@@ -8,13 +8,14 @@ use Rattle.incidence.proofs.Counting.{last-or, inside-low, inside-high}
 use Rattle.affine.specs.declared.Line.{Line}
 use Rattle.affine.specs.declared.Course.{Course}
 use Rattle.affine.specs.Field.{offered, product, elementInverse}
-use Rattle.affine.specs.Lines.{points}
-use Rattle.affine.specs.Affine.{sized, rowCount, isTagged, affineFamily}
+use Rattle.affine.specs.Lines.{points, rowCount}
+use Rattle.affine.specs.Affine.{sized, isTagged, affineFamily}
 use Rattle.affine.specs.Walk.{firsts, courseOf, placeOn, rowAt, rowsMet, throughCount}
 use Rattle.affine.proofs.FieldLaws.{Field, field}
-use Rattle.affine.proofs.Computing.{points-few, elements-few, sized-offered, sized-high}
+use Rattle.affine.proofs.Computing.{points-few, elements-few, sized-offered}
 use Rattle.affine.proofs.Meeting.{spot-high}
 use Rattle.affine.proofs.Listings.{firsts-length}
+use Rattle.affine.proofs.Walks.{count-few}
 
 -- ---- places
 
@@ -107,13 +108,8 @@ module _ (s l : ℕ) (C : Course) where
 
 -- ---- numbers of cards
 
-pub count-few : (s l p : ℕ) → sized s l ≡ true → throughCount s l p ≤ 9
-unfolding throughCount
-count-few s l p size = go (eqb p 1)
-  where
-    go : (b : Bool) → (if b then l else 2 ^ s + 1) ≤ 9
-    go true = omega (arith, sized-high s l size, elements-few s (sized-offered s l size) .1)
-    go false = omega (arith, elements-few s (sized-offered s l size) .1)
+pub count-nine : (s l p : ℕ) → sized s l ≡ true → throughCount s l p ≤ 9
+count-nine s l p size = omega (arith, count-few s l size p, elements-few s (sized-offered s l size) .1)
 
 -- ---- no such row
 

@@ -7,8 +7,8 @@ use Rattle.incidence.proofs.Booleans.{and-left, and-right}
 use Rattle.incidence.proofs.Counting.{every, every-at, count-most, inside-yes}
 use Rattle.incidence.proofs.Listing.{listed-length}
 use Rattle.affine.specs.Field.{polynomial, elementTimesX, productOver, product, elementPower, elementInverse}
-use Rattle.affine.specs.Lines.{points, xOf, yOf, onLine, chosen, affineItems, isRow, pointOf}
-use Rattle.affine.specs.Affine.{sized, rowCount, itemsAt, eliminated, remainder, isTagged, affineFamily}
+use Rattle.affine.specs.Lines.{points, xOf, yOf, onLine, chosen, affineItems, isRow, pointOf, rowCount}
+use Rattle.affine.specs.Affine.{sized, itemSet, eliminated, remainder, isTagged, affineFamily, tagNumbers}
 use Rattle.affine.specs.Walk.{courseOf, placeOn, chosenAt, dual, throughCount, rowAt, sizeIndex, rowRecord, entryOf, wideEntryOf}
 use Rattle.affine.specs.Elimination.{has, greatest, Remainder, nothing, add, reduced, reducedBy, remainderOf, next}
 use Rattle.affine.proofs.Tagging.{tagged-yes, tagged-no, made-is, made-none, tag-of, tag-none}
@@ -273,7 +273,7 @@ module _ (s l : ℕ) where
 module _ (s l : ℕ) (size : sized s l ≡ true) where
   eliminated-length : length {A = Remainder} (eliminated s l) ≡ rowCount s l
   unfolding eliminated
-  eliminated-length = remainders-length (affineItems s l) (λ i. itemsAt s l (pointOf s l i)) (rowCount s l)
+  eliminated-length = remainders-length (affineItems s l) (λ i. itemSet s l (pointOf s l i)) (rowCount s l)
 
   record-is : (i : ℕ) → 1 ≤ i → i ≤ rowCount s l → getD (recordsFrom 0 0 (eliminated s l)) (i - 1) [] ≡ rowRecord s l i
   unfolding remainder
@@ -335,18 +335,14 @@ left-count s l (w ∷ us) i same few =
     this : isTagged s l (suc i) ≡ not (eqb (w .last) 0)
     this = rw (inside-yes (rowCount s l) (suc i) (omega arith) (omega arith)) (ap (λ (u : Remainder). not (eqb (u .last) 0)) (sym here))
 
--- "Tags for s = 2 number 8, 9, 9; for s = 3 they number 19, 23, 24, 25, 26, 27, 27."
-unfoldable pub affineTags : List ℕ
-affineTags = 8 ∷ 9 ∷ 9 ∷ 19 ∷ 23 ∷ 24 ∷ 25 ∷ 26 ∷ 27 ∷ 27 ∷ []
-
 tagsTest : ℕ → ℕ → Bool
-tagsTest s l = eqb (leftCount (quickly s l)) (getD affineTags (sizeIndex s l) 0)
+tagsTest s l = eqb (leftCount (quickly s l)) (tagNumbers s l)
 
 tags-tested : sizesTest tagsTest ≡ true
-unfolding tagsTest leftCount affineTags passing setUp cardAlong rowSet goThrough quickly courseOf placeOn chosenAt dual throughCount sizeIndex points xOf yOf onLine chosen affineItems isRow polynomial elementTimesX productOver product elementPower elementInverse has greatest add reduced reducedBy remainderOf next
+unfolding tagsTest leftCount tagNumbers passing setUp cardAlong rowSet goThrough quickly courseOf placeOn chosenAt dual throughCount points xOf yOf onLine chosen affineItems isRow polynomial elementTimesX productOver product elementPower elementInverse has greatest add reduced reducedBy remainderOf next
 tags-tested = refl
 
-pub tag-count : (s l : ℕ) → sized s l ≡ true → affineFamily s l .tags ≡ getD affineTags (sizeIndex s l) 0
+pub tag-count : (s l : ℕ) → sized s l ≡ true → affineFamily s l .tags ≡ tagNumbers s l
 unfolding affineFamily tagsTest remainder
 tag-count s l size =
     let long = eliminated-length s l size in
@@ -355,4 +351,19 @@ tag-count s l size =
     ∙ sym (left-count s l (eliminated s l) 0 (λ n h. let z : n ≡ suc (0 + n) - 1 = omega arith in ap (λ (x : ℕ). getD (eliminated s l) x nothing) z) (omega (arith, long)))
     ∙ zero-add (leftCount (eliminated s l))
     ∙ ap leftCount (sym (quickly-is s l size))
-    ∙ eqb-true (leftCount (quickly s l)) (getD affineTags (sizeIndex s l) 0) (sizes-at s l size tagsTest tags-tested)
+    ∙ eqb-true (leftCount (quickly s l)) (tagNumbers s l) (sizes-at s l size tagsTest tags-tested)
+
+-- what is read of the code's table of them
+unfoldable pub numberTest : List ℕ → ℕ → ℕ → Bool
+numberTest T s l = eqb (getD T (sizeIndex s l) 0) (tagNumbers s l)
+
+unfoldable pub numbersTest : List ℕ → Bool
+numbersTest T = sizesTest (numberTest T)
+
+pub tags-read : (s l : ℕ) → sized s l ≡ true → (T : List ℕ) (z : ℕ) {r : ℕ} → r ≡ entryOf T z → z ≡ sizeIndex s l → numbersTest T ≡ true → r ≡ affineFamily s l .tags
+unfolding numbersTest numberTest entryOf
+tags-read s l size T z e at h =
+    e
+    ∙ ap (λ (x : ℕ). getD T x 0) at
+    ∙ eqb-true (getD T (sizeIndex s l) 0) (tagNumbers s l) (sizes-at s l size (numberTest T) h)
+    ∙ sym (tag-count s l size)

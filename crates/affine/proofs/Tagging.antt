@@ -7,9 +7,9 @@ use Rattle.incidence.specs.Family.{Earlier, parity}
 use Rattle.incidence.proofs.Booleans.{and-right, and-both, and-false-r, not-both}
 use Rattle.incidence.proofs.Counting.{last-or, inside-yes, count-before}
 use Rattle.incidence.proofs.Listing.{Member, listed-at, listed-rank}
-use Rattle.affine.specs.Lines.{onLine, affineItems, lineOf, pointOf}
+use Rattle.affine.specs.Lines.{onLine, affineItems, lineOf, pointOf, rowCount}
 use Rattle.affine.specs.Elimination.{has, nothing}
-use Rattle.affine.specs.Affine.{rowCount, itemsAt, eliminated, remainder, isTagged, affineFamily, SumOfEarlier, TagsByRule}
+use Rattle.affine.specs.Affine.{itemSet, eliminated, remainder, isTagged, affineFamily, SumOfEarlier, TagsByRule}
 use Rattle.affine.proofs.Sets.{has-set}
 use Rattle.affine.proofs.Eliminating.{dependent, independent}
 
@@ -73,14 +73,14 @@ module _ (s l : ℕ) where
   m = affineItems s l
 
   row : ℕ → ℕ
-  row i = itemsAt s l (pointOf s l i)
+  row i = itemSet s l (pointOf s l i)
 
   t : ℕ → Bool
   t = isTagged s l
 
   -- what a row holds
   on-row : (i j : ℕ) → 1 ≤ i → i ≤ rowCount s l → 1 ≤ j → j ≤ affineItems s l → affineFamily s l .on i j ≡ has j (row i)
-  unfolding affineFamily itemsAt row
+  unfolding affineFamily itemSet row
   on-row i j li ui lj uj =
       rw (inside-yes (rowCount s l) i li ui, inside-yes (affineItems s l) j lj uj) (sym (has-set (λ j. onLine s (lineOf s l j) (pointOf s l i)) (affineItems s l) j lj uj))
 

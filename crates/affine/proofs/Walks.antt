@@ -11,10 +11,10 @@ use Rattle.incidence.proofs.Listing.{Member, listed-at, listed-ext, none-listed
 use Rattle.affine.specs.declared.Line.{Line}
 use Rattle.affine.specs.declared.Course.{Course}
 use Rattle.affine.specs.Field.{product, elementInverse}
-use Rattle.affine.specs.Lines.{points, xOf, yOf, onLine, chosen, crossing, affineItems, lineOf, isRow, pointOf}
-use Rattle.affine.specs.Affine.{sized, rowCount, affineFamily}
+use Rattle.affine.specs.Lines.{points, xOf, yOf, onLine, chosen, crossing, affineItems, lineOf, isRow, pointOf, rowCount}
+use Rattle.affine.specs.Affine.{sized, affineFamily}
 use Rattle.affine.specs.Walk.{firsts, courseOf, placeOn, rowAt, rowsMet, chosenAt, dual, throughCount, throughAt}
-use Rattle.affine.proofs.FieldLaws.{Field, xor-same, zero-left, zero-right}
+use Rattle.affine.proofs.FieldLaws.{Field, xor-equal, zero-left, zero-right}
 use Rattle.affine.proofs.Meeting.{of-chosen, of-crossing, x-low, y-low, same-point, held, Proper, chosen-proper, crossing-proper, chosen-through, crossing-one}
 use Rattle.affine.proofs.Disjunct as disjunct
 use Rattle.affine.proofs.Listings.{Among, Passing, listed-firsts, listed-places, firsts-length}
@@ -133,7 +133,7 @@ module _ (s l : ℕ) (size : sized s l ≡ true) where
     chosen-only k lk uk h = go (leb k (2 ^ s)) refl
       where
         said : product s (chosen s k .a) (xOf s p) ≡ product s (chosen s k .b) (yOf s p)
-        said = xor-same _ _ (held s F (chosen s k) p h ∙ chosen-through s F k)
+        said = xor-equal _ _ (held s F (chosen s k) p h ∙ chosen-through s F k)
 
         go : (t : Bool) → leb k (2 ^ s) ≡ t → k ≡ chosenAt s p
         go true e =
@@ -297,7 +297,7 @@ module _ (s l : ℕ) (size : sized s l ≡ true) where
       go false e = rw (rows-out j e) (omega arith)
 
   -- a row has at most 2^s + 1 cards
-  count-few : (p : ℕ) → throughCount s l p ≤ 2 ^ s + 1
+  pub count-few : (p : ℕ) → throughCount s l p ≤ 2 ^ s + 1
   unfolding throughCount
   count-few p = go (eqb p 1)
     where

@@ -27,6 +27,7 @@ pub record Combination : Type 0 where
   pub items : ℕ
   pub rows : ℕ
 
+-- the XOR of two
 unfoldable pub add : Combination → Combination → Combination
 add u v = record { items = bitXor (u .items) (v .items); rows = bitXor (u .rows) (v .rows) }
 
@@ -35,6 +36,7 @@ pub record Remainder : Type 0 where
   pub left : Combination
   pub last : ℕ
 
+-- where there is no row
 unfoldable pub nothing : Remainder
 nothing = record { left = record { items = 0; rows = 0 }; last = 0 }
 

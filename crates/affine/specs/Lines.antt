@@ -6,7 +6,7 @@ use lib.Dec.{eqb, leb}
 use lib.Bits.{bitXor}
 use lib.ListN.{getD}
 use Rattle.blocks.specs.Block.{if_then_else_}
-use Rattle.incidence.specs.Count.{anyUpTo, listed}
+use Rattle.incidence.specs.Count.{countUpTo, anyUpTo, listed}
 use Rattle.affine.specs.declared.Line.{Line}
 use Rattle.affine.specs.Field.{product}
 
@@ -44,6 +44,9 @@ lineOf s l j = if leb j l then chosen s j else crossing s (j - l)
 -- "Rows stand for points of the chosen lines, by y×2^s+x rising": whether point p is one, how many there are, and the point of row i
 unfoldable pub isRow : ℕ → ℕ → ℕ → Bool
 isRow s l p = anyUpTo (λ k. onLine s (chosen s k) p) l
+
+unfoldable pub rowCount : ℕ → ℕ → ℕ
+rowCount s l = countUpTo (isRow s l) (points s)
 
 unfoldable pub pointOf : ℕ → ℕ → ℕ → ℕ
 pointOf s l i = getD (listed (isRow s l) (points s)) (i - 1) 0

@@ -39,7 +39,7 @@ rowsMet s l C zero = []
 rowsMet s l C (suc n) =
     if eqb (rowAt s l (placeOn s C n)) 0 then rowsMet s l C n else rowsMet s l C n ++ (rowAt s l (placeOn s C n) ∷ [])
 
--- the chosen line through a point that is not the origin: x = 0, or y = kx with k = y / x
+-- which of the 2^s + 1 lines through the origin goes through another point: x = 0, or y = kx with k = y / x
 unfoldable pub chosenAt : ℕ → ℕ → ℕ
 chosenAt s p = if eqb (xOf s p) 0 then 2 ^ s + 1 else product s (elementInverse s (xOf s p)) (yOf s p) + 1
 
@@ -47,7 +47,8 @@ chosenAt s p = if eqb (xOf s p) 0 then 2 ^ s + 1 else product s (elementInverse 
 unfoldable pub dual : ℕ → ℕ → Line
 dual s p = record { a = yOf s p; b = xOf s p; c = 1 }
 
--- the items whose lines go through point p, in rising order: at the origin all chosen lines; elsewhere one, and then 2^s lines ax + by = 1
+-- the items whose lines go through point p, which is a row, in rising order: at the origin all chosen lines; elsewhere one, and then 2^s
+-- lines ax + by = 1
 unfoldable pub throughCount : ℕ → ℕ → ℕ → ℕ
 throughCount s l p = if eqb p 1 then l else 2 ^ s + 1
 

@@ -5,8 +5,8 @@ ghost use mathlib.Core.Path.{_≡_};
 ghost use mathlib.Core.Bool.{true};
 ghost use Prim.Native.Nat.{_+_, _*_, _≤_, _<_};
 ghost use lib.ListN.{length, getD};
-ghost use Rattle.affine.specs.Lines.{points, pointOf};
-ghost use Rattle.affine.specs.Affine.{sized, rowCount, affineFamily};
+ghost use Rattle.affine.specs.Lines.{points, pointOf, rowCount};
+ghost use Rattle.affine.specs.Affine.{sized, affineFamily};
 ghost use Rattle.affine.specs.Walk.{rowAt, sizeIndex, rowRecord, entryOf, wideEntryOf};
 
 // Whether s and l are those of a size.
@@ -69,7 +69,7 @@ fn entry(t: &[u8], k: usize) -> usize
     if k < t.len() { from_u8(t[k]) } else { 0 }
 }
 
-// The entry at place k of a table of two bytes each.
+// The entry at place k of a table of two bytes each, 64 a size.
 fn wide_entry(t: &[u8], k: usize) -> usize
     requires { ⌜ k < 640 ⌝ }
     ensures read { λ r. ⌜ r ≡ wideEntryOf (now (t .entry)) k ⌝ }

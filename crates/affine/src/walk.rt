@@ -132,7 +132,7 @@ pub fn rows_of(s: usize, l: usize, j: usize, out: &mut [usize]) -> usize
 
 // ---- items of a row
 
-// The chosen line through point p, which is not the origin: x = 0, or y = kx with k = y / x.
+// Which of the 2^s + 1 lines through the origin goes through another point p: x = 0, or y = kx with k = y / x.
 fn chosen_at(s: usize, p: usize) -> usize
     requires { ⌜ offered s ≡ true ⌝ }
     requires { ⌜ 1 ≤ p ⌝ }
@@ -160,7 +160,7 @@ fn dual(s: usize, p: usize) -> Line
     }
 }
 
-// How many items there are through point p: at the origin the chosen lines, elsewhere one of them and 2^s others.
+// How many items there are through point p, which is a row: at the origin the chosen lines, elsewhere one of them and 2^s others.
 fn item_count(s: usize, l: usize, p: usize) -> usize
     requires { ⌜ offered s ≡ true ⌝ }
     ensures { λ r. ⌜ r ≡ throughCount s l p ⌝ }
@@ -168,7 +168,7 @@ fn item_count(s: usize, l: usize, p: usize) -> usize
     if p == 1 { l } else { field::elements(s) + 1 }
 }
 
-// The item at place k, from 0, of those through point p, whose dual line is solved.
+// The item at place k, from 0, of those through point p, which is a row and whose dual line is solved.
 fn item_at(s: usize, l: usize, p: usize, course: Course, k: usize) -> usize
     requires { ⌜ sized s l ≡ true ⌝ }
     requires { ⌜ (1 ≤ p) × (course ≡ courseOf s (dual s p)) × (k < throughCount s l p) ⌝ }
@@ -183,7 +183,7 @@ fn item_at(s: usize, l: usize, p: usize, course: Course, k: usize) -> usize
     l + place_on(s, course, k - 1) - 1
 }
 
-// Writes the items through point p to the front of out.
+// Writes the items through point p, which is a row, to the front of out.
 fn write_items(s: usize, l: usize, p: usize, course: Course, out: &mut [usize]) -> usize
     requires { ⌜ sized s l ≡ true ⌝ }
     requires { ⌜ (1 ≤ p) × (course ≡ courseOf s (dual s p)) ⌝ }

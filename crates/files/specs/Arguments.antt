@@ -11,7 +11,7 @@ use Rattle.files.specs.Refusals.{unless}
 unfoldable pub refuse1 : ℕ → Refusal
 refuse1 long = unless (eqb long 48) 1 0
 
--- 2: "size code not 1 to 4"
+-- 2: "size code not 1 to 4", nor, since document 02, 2.7, one of its codes
 unfoldable pub refuse2 : ℕ → Refusal
 refuse2 c = unless (known c) 2 0
 

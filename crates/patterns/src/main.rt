@@ -1,4 +1,4 @@
-// Prints the row pattern of each size, worked out from its difference list (document 02, request 2.6). What it prints is proved in the crate
+// Prints the row pattern of each plane, worked out from its difference list (document 02, request 2.6). What it prints is proved in the crate
 // deriving.
 fn main() {
     let mut out = [0u8; 256];

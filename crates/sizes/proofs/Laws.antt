@@ -41,10 +41,10 @@ pub plane-family : (c : ℕ) {r : Bool} → r ≡ affineCode c → r ≡ false �
 unfolding familyOf
 plane-family c e t = rw (sym e ∙ t)
 
--- 1 to 4 is no affine size, and an affine size is below 64
-affine-low : (c : ℕ) → affineCode c ≡ true → c < 64
+-- the code of an affine size is below 64
+affine-high : (c : ℕ) → affineCode c ≡ true → c < 64
 unfolding affineCode
-affine-low c h = let n = of-both (λ s. s ≤ 3) (omega arith) (omega arith) (c / 16) (sized-offered (c / 16) (c % 16) h) in omega arith
+affine-high c h = let n = of-both (λ s. s ≤ 3) (omega arith) (omega arith) (c / 16) (sized-offered (c / 16) (c % 16) h) in omega arith
 
 plane-code : (c : ℕ) → known c ≡ true → affineCode c ≡ false → inside 4 c ≡ true
 unfolding known
@@ -70,7 +70,7 @@ module _ (c : ℕ) (h : known c ≡ true) where
     where
       go : (inside 4 c ≡ true) ⊎ (affineCode c ≡ true) → c < 256
       go (inl t) = omega (arith, inside-high 4 c t)
-      go (inr t) = omega (arith, affine-low c t)
+      go (inr t) = omega (arith, affine-high c t)
 
 -- at most 273, and 82 tags, whatever the code
 pub items-few : (c : ℕ) → familyOf c .items ≤ 273

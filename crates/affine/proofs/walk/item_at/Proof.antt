@@ -3,12 +3,12 @@ use Rattle.fips197.proofs.Kit.{_∙_, ap, ℕ, _+_, _-_, _^_, _≤_, _<_, arith
 use Rattle.affine.specs.declared.Course.{Course}
 use Rattle.affine.specs.Walk.{throughAt, throughCount, placeOn}
 use Rattle.affine.proofs.Computing.{points-few, elements-few, sized-offered, sized-high}
-use Rattle.affine.proofs.Steps.{start-low, place-few, count-few}
+use Rattle.affine.proofs.Steps.{start-low, place-few, count-nine}
 use Rattle.affine.proofs.walk.item_at.Statement.{statement}
 use Rattle.affine.proofs.walk.item_at.Tie as tie
 
 add-result : tie.Need-add-result
-add-result c = let b = c .before in omega (arith, b .pre .1 .2, count-few (b .args .s) (b .args .l) (b .args .p) (b .pre .0))
+add-result c = let b = c .before in omega (arith, b .pre .1 .2, count-nine (b .args .s) (b .args .l) (b .args .p) (b .pre .0))
 
 returns : tie.Need-returns
 unfolding throughAt

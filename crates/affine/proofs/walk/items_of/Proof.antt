@@ -4,8 +4,8 @@ use Rattle.incidence.specs.Count.{inside}
 use Rattle.incidence.specs.Family.{itemsOf}
 use Rattle.incidence.proofs.Listing.{written-as, written-none}
 use Rattle.incidence.proofs.Counting.{inside-low, inside-high, inside-of}
-use Rattle.affine.specs.Lines.{points}
-use Rattle.affine.specs.Affine.{rowCount, affineFamily}
+use Rattle.affine.specs.Lines.{points, rowCount}
+use Rattle.affine.specs.Affine.{affineFamily}
 use Rattle.affine.specs.Walk.{dual, courseOf, firsts, throughAt, throughCount}
 use Rattle.affine.proofs.Computing.{sized-offered}
 use Rattle.affine.proofs.Meeting.{x-low, y-low}

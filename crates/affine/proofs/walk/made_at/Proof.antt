@@ -1,6 +1,7 @@
 -- An entry of the row's record, or nothing behind its end.
 use Rattle.fips197.proofs.Kit.{_≡_, sym, ap, _∙_, ℕ, suc, arith, getD, _+_, _<_, _≤_, List·getD-eq-default, needs}
-use Rattle.affine.specs.Affine.{rowCount, affineFamily}
+use Rattle.affine.specs.Lines.{rowCount}
+use Rattle.affine.specs.Affine.{affineFamily}
 use Rattle.affine.specs.Walk.{rowRecord}
 use Rattle.affine.proofs.Tables.{record-few}
 use Rattle.affine.proofs.Steps.{made-somewhere}

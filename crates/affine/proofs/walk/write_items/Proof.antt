@@ -4,7 +4,7 @@ use Rattle.blocks.proofs.Loop.{part, part-turn, part-front}
 use Rattle.affine.specs.Walk.{firsts, throughAt, throughCount}
 use Rattle.affine.proofs.Computing.{sized-offered}
 use Rattle.affine.proofs.Listings.{firsts-length}
-use Rattle.affine.proofs.Steps.{firsts-at, count-few}
+use Rattle.affine.proofs.Steps.{firsts-at, count-nine}
 use Rattle.affine.proofs.walk.write_items.Statement.{statement}
 use Rattle.affine.proofs.walk.write_items.Tie as tie
 
@@ -16,7 +16,7 @@ abbrev μ-loop : tie.MeasureT-loop
 
 -- there are at most nine
 few : (c : tie.After-item-count Inv-loop μ-loop) → c .item-count .result ≤ 9
-few c = let b = c .before .before in omega (arith, c .item-count .ensures, count-few (b .args .s) (b .args .l) (b .args .p) (b .pre .0))
+few c = let b = c .before .before in omega (arith, c .item-count .ensures, count-nine (b .args .s) (b .args .l) (b .args .p) (b .pre .0))
 
 item-at-requires : tie.Need-item-at-requires Inv-loop μ-loop
 item-at-requires c κs =
