@@ -41,6 +41,11 @@ pub plane-family : (c : ℕ) {r : Bool} → r ≡ affineCode c → r ≡ false �
 unfolding familyOf
 plane-family c e t = rw (sym e ∙ t)
 
+-- 1 to 4 are no affine sizes
+pub no-affine : (c : ℕ) → c ≤ 4 → affineCode c ≡ false
+unfolding affineCode sized
+no-affine c h = let z : c / 16 ≡ 0 = omega arith in rw z
+
 -- the code of an affine size is below 64
 affine-high : (c : ℕ) → affineCode c ≡ true → c < 64
 unfolding affineCode

@@ -25,10 +25,13 @@ fn chosen_lines(code: u64) -> usize
     (code % 16) as usize
 }
 
-// Whether a number is the code of an affine size.
+// Whether a number is the code of an affine size. A plane's is told by one comparison, since the walks of a plane ask again and again.
 fn is_affine(code: u64) -> bool
     ensures { λ r. ⌜ r ≡ affineCode code ⌝ }
 {
+    if code <= 4 {
+        return false;
+    }
     affine::table::sized(exponent(code), chosen_lines(code))
 }
 
