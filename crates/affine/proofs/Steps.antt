@@ -1,16 +1,16 @@
 -- What the walks' steps rest on: a place of a course is a point, a number written behind others is the next of the list, and a row that
 -- there is not has no tag and is made of none.
-use Rattle.fips197.proofs.Kit.{_≡_, refl, sym, ap, _∙_, Bool, true, false, List, [], _∷_, _++_, ℕ, zero, suc, _+_, _*_, _^_, _≤_, _<_, _⊎_, inl, inr, arith, add-one, eqb, length, getD, set, drop, length-append, List·getD-append, getD-at, eq-eqb, ne-eqb, xor-lt, bitXor}
+use Rattle.fips197.proofs.Kit.{_≡_, refl, sym, ap, _∙_, Bool, true, false, List, [], _∷_, _++_, ℕ, zero, suc, _+_, _-_, _*_, _^_, _≤_, _<_, _⊎_, inl, inr, arith, add-one, eqb, length, getD, set, drop, length-append, List·getD-append, getD-at, eq-eqb, ne-eqb, xor-lt, bitXor}
 use Rattle.blocks.specs.Block.{if_then_else_}
 use Rattle.incidence.specs.Count.{inside}
 use Rattle.incidence.proofs.Booleans.{and-false-l}
-use Rattle.incidence.proofs.Counting.{last-or, inside-low, inside-high}
+use Rattle.incidence.proofs.Counting.{last-or}
 use Rattle.affine.specs.declared.Line.{Line}
 use Rattle.affine.specs.declared.Course.{Course}
 use Rattle.affine.specs.Field.{offered, product, elementInverse}
 use Rattle.affine.specs.Lines.{points, rowCount}
 use Rattle.affine.specs.Affine.{sized, isTagged, affineFamily}
-use Rattle.affine.specs.Walk.{firsts, courseOf, placeOn, rowAt, rowsMet, throughCount}
+use Rattle.affine.specs.Walk.{firsts, courseOf, placeOn, met, throughCount}
 use Rattle.affine.proofs.FieldLaws.{Field, field}
 use Rattle.affine.proofs.Computing.{points-few, elements-few, sized-offered}
 use Rattle.affine.proofs.Meeting.{spot-high}
@@ -75,36 +75,36 @@ firsts-at f (suc n) k h = go (firsts-at f n k) (last-or (suc k) n h)
     go rest (inr w) = List·getD-append (firsts f n) (f n ∷ []) 0 k (omega (arith, firsts-length f n)) ∙ rest w
     go rest (inl e) = let z : n ≡ k = omega arith in getD-at (firsts f n) (f n) [] 0 k (firsts-length f n ∙ z) ∙ ap f z
 
--- the rows met at the next place
-module _ (s l : ℕ) (C : Course) where
+-- the entries met at the next place
+module _ (s : ℕ) (C : Course) (T : List ℕ) where
   abbrev pub Met : ℕ → List ℕ → List ℕ → ℕ → Type 0
-  Met t o out n = (n ≡ length (rowsMet s l C t)) × (out ≡ rowsMet s l C t ++ drop (length (rowsMet s l C t)) o) × (length (rowsMet s l C t) ≤ t)
+  Met t o out n = (n ≡ length (met s C T t)) × (out ≡ met s C T t ++ drop (length (met s C T t)) o)
 
-  pub met-none : (t : ℕ) (o out : List ℕ) (n i : ℕ) → i ≡ rowAt s l (placeOn s C t) → i ≡ 0 → Met t o out n → Met (t + 1) o out n
-  unfolding rowsMet
-  met-none t o out n i e z m =
-      rw (add-one t, eq-eqb (rowAt s l (placeOn s C t)) 0 (sym e ∙ z)) (m .0, m .1, omega (arith, m .2))
+  pub met-none : (t : ℕ) (o out : List ℕ) (n i : ℕ) → i ≡ getD T (placeOn s C t - 1) 0 → i ≡ 0 → Met t o out n → Met (t + 1) o out n
+  unfolding met
+  met-none t o out n i e z m = rw (add-one t, eq-eqb (getD T (placeOn s C t - 1) 0) 0 (sym e ∙ z)) m
 
-  pub met-one : (t : ℕ) (o out : List ℕ) (n i : ℕ) → i ≡ rowAt s l (placeOn s C t) → (i ≡ 0 → ⊥) → length (rowsMet s l C t) < length o
+  pub met-one : (t : ℕ) (o out : List ℕ) (n i : ℕ) → i ≡ getD T (placeOn s C t - 1) 0 → (i ≡ 0 → ⊥) → length (met s C T t) < length o
       → Met t o out n → Met (t + 1) o (set out n i) (n + 1)
-  unfolding rowsMet
-  met-one t o out n i e ne few m =
-      rw (add-one t, ne-eqb (rowAt s l (placeOn s C t)) 0 (λ z. ne (e ∙ z)))
-      (omega (arith, m .0, longer), written, omega (arith, m .2, longer))
+  unfolding met
+  met-one t o out n i e ne few m = rw (add-one t, ne-eqb x 0 (λ z. ne (e ∙ z))) (omega (arith, m .0, longer), written)
     where
+      x : ℕ
+      x = getD T (placeOn s C t - 1) 0
+
       list : List ℕ
-      list = rowsMet s l C t
+      list = met s C T t
 
-      longer : length (list ++ (rowAt s l (placeOn s C t) ∷ [])) ≡ length list + 1
-      longer = length-append list (rowAt s l (placeOn s C t) ∷ [])
+      longer : length (list ++ (x ∷ [])) ≡ length list + 1
+      longer = length-append list (x ∷ [])
 
-      written : set out n i ≡ (list ++ (rowAt s l (placeOn s C t) ∷ [])) ++ drop (length (list ++ (rowAt s l (placeOn s C t) ∷ []))) o
+      written : set out n i ≡ (list ++ (x ∷ [])) ++ drop (length (list ++ (x ∷ []))) o
       written =
           ap (λ (z : List ℕ). set z n i) (m .1)
           ∙ ap (λ (k : ℕ). set (list ++ drop (length list) o) k i) (m .0)
           ∙ set-next list o i few
-          ∙ ap (λ (x : ℕ). (list ++ (x ∷ [])) ++ drop (suc (length list)) o) e
-          ∙ ap (λ (k : ℕ). (list ++ (rowAt s l (placeOn s C t) ∷ [])) ++ drop k o) (sym (longer ∙ add-one (length list)))
+          ∙ ap (λ (y : ℕ). (list ++ (y ∷ [])) ++ drop (suc (length list)) o) e
+          ∙ ap (λ (k : ℕ). (list ++ (x ∷ [])) ++ drop k o) (sym (longer ∙ add-one (length list)))
 
 -- ---- numbers of cards
 
@@ -125,11 +125,3 @@ module _ (s l i : ℕ) (out : inside (rowCount s l) i ≡ false) where
   pub made-out : affineFamily s l .made i ≡ []
   unfolding affineFamily
   made-out = rw out
-
--- a row that is made of others is one
-pub made-somewhere : (s l i : ℕ) → 0 < length (affineFamily s l .made i) → (1 ≤ i) × (i ≤ rowCount s l)
-made-somewhere s l i h = go (inside (rowCount s l) i) refl
-  where
-    go : (b : Bool) → inside (rowCount s l) i ≡ b → (1 ≤ i) × (i ≤ rowCount s l)
-    go true e = (inside-low (rowCount s l) i e, inside-high (rowCount s l) i e)
-    go false e = absurd (omega (arith, ap length (made-out s l i e)))

@@ -1,18 +1,20 @@
 -- The code's tables are what the definitions give, for each of the ten sizes: one test over each table. The tests go through the lists once;
 -- the laws before them say that this gives what the definitions say of each place.
-use Rattle.fips197.proofs.Kit.{_≡_, refl, sym, ap, ap₂, _∙_, subst, Bool, true, false, true≢false, not, _&&_, List, [], _∷_, ℕ, zero, suc, _+_, _-_, _*_, _^_, _≤_, _<_, arith, add-zero, zero-add, eqb, eqb-true, eqb-false, length, getD, drop, getD-drop, drop-drop}
+use Rattle.fips197.proofs.Kit.{_≡_, refl, sym, ap, ap₂, _∙_, subst, Bool, true, false, true≢false, not, _&&_, List, [], _∷_, map, ℕ, zero, suc, _+_, _-_, _*_, _^_, _≤_, _<_, arith, add-zero, zero-add, eqb, leb, eqb-true, eqb-false, leb-true, length, getD, take, drop, not-true, getD-take, getD-drop, drop-drop, length-map, length-take, length-drop}
 use Rattle.blocks.specs.Block.{if_then_else_}
+use Rattle.blocks.proofs.Loop.{map-at}
 use Rattle.incidence.specs.Count.{indicator, countUpTo, listed}
 use Rattle.incidence.proofs.Booleans.{and-left, and-right}
-use Rattle.incidence.proofs.Counting.{every, every-at, count-most, inside-yes}
+use Rattle.incidence.proofs.Counting.{every, every-at, count-ext, count-most, count-up}
 use Rattle.incidence.proofs.Listing.{listed-length}
 use Rattle.affine.specs.Field.{polynomial, elementTimesX, productOver, product, elementPower, elementInverse}
 use Rattle.affine.specs.Lines.{points, xOf, yOf, onLine, chosen, affineItems, isRow, pointOf, rowCount}
 use Rattle.affine.specs.Affine.{sized, itemSet, eliminated, remainder, isTagged, affineFamily, tagNumbers}
-use Rattle.affine.specs.Walk.{courseOf, placeOn, chosenAt, dual, throughCount, rowAt, sizeIndex, rowRecord, entryOf, wideEntryOf}
+use Rattle.affine.specs.Walk.{courseOf, placeOn, chosenAt, dual, throughCount, sizeIndex, entryOf, wideEntryOf, MadeIn}
 use Rattle.affine.specs.Elimination.{has, greatest, Remainder, nothing, add, reduced, reducedBy, remainderOf, next}
-use Rattle.affine.proofs.Tagging.{tagged-yes, tagged-no, made-is, made-none, tag-of, tag-none}
+use Rattle.affine.proofs.Tagging.{tagged-yes, tagged-no, made-is, made-none}
 use Rattle.affine.proofs.Listings.{passing, passing-is}
+use Rattle.affine.proofs.Walks.{rowAt, tagAt}
 use Rattle.affine.proofs.Eliminating.{remainders-length}
 use Rattle.affine.proofs.Eliminated.{setUp, cardAlong, rowSet, goThrough, quickly, quickly-is}
 use Rattle.affine.proofs.Computing.{of-both, points-few, sized-offered, sized-low, sized-high}
@@ -49,12 +51,14 @@ begins T [] = true
 begins [] (x ∷ l) = false
 begins (y ∷ T) (x ∷ l) = eqb y x && begins T l
 
-begins-at : (T l : List ℕ) → begins T l ≡ true → (k : ℕ) → k < length l → getD T k 0 ≡ getD l k 0
+begins-is : (T l : List ℕ) → begins T l ≡ true → take (length l) T ≡ l
 unfolding begins
-begins-at T [] h k u = absurd (omega arith)
-begins-at [] (x ∷ l) h k u = absurd (true≢false (sym h))
-begins-at (y ∷ T) (x ∷ l) h zero u = eqb-true y x (and-left (eqb y x) _ h)
-begins-at (y ∷ T) (x ∷ l) h (suc k) u = begins-at T l (and-right (eqb y x) _ h) k (omega arith)
+begins-is T [] h = refl
+begins-is [] (x ∷ l) h = absurd (true≢false (sym h))
+begins-is (y ∷ T) (x ∷ l) h = ap₂ _∷_ (eqb-true y x (and-left (eqb y x) _ h)) (begins-is T l (and-right (eqb y x) _ h))
+
+begins-at : (T l : List ℕ) → begins T l ≡ true → (k : ℕ) → k < length l → getD T k 0 ≡ getD l k 0
+begins-at T l h k u = sym (getD-take (length l) T k 0 u) ∙ ap (λ (x : List ℕ). getD x k 0) (begins-is T l h)
 
 module _ (T : List ℕ) (L : ℕ → ℕ → List ℕ) where
   unfoldable pub partTest : ℕ → ℕ → Bool
@@ -89,16 +93,9 @@ ranks-at f (suc n) a (suc k) h =
     let z : suc a + suc k ≡ suc (suc a) + k = omega arith in
     ranks-at f n (suc a) k (omega arith) ∙ ap (λ (x : ℕ). if f x then countUpTo f x else 0) (sym z)
 
--- the row of each point
-unfoldable pub rowList : ℕ → ℕ → List ℕ
-rowList s l = ranks (isRow s l) 1 (points s) 0
-
 -- the point of each row
 unfoldable pub pointList : ℕ → ℕ → List ℕ
 pointList s l = passing (isRow s l) 1 (points s)
-
-unfoldable pub rowsTest : List ℕ → Bool
-rowsTest T = sizesTest (partTest T rowList)
 
 unfoldable pub pointsTest : List ℕ → Bool
 pointsTest T = sizesTest (partTest T pointList)
@@ -116,16 +113,7 @@ module _ (s l : ℕ) (size : sized s l ≡ true) where
   unfolding countTest
   row-count = eqb-true (rowCount s l) (l * (2 ^ s - 1) + 1) (sizes-at s l size countTest counts-tested)
 
-  -- what is read at a place of the table of rows, or of that of points
-  pub row-read : (T : List ℕ) (z : ℕ) {r p : ℕ} → r ≡ entryOf T z → rowsTest T ≡ true → z ≡ 64 * sizeIndex s l + (p - 1) → 1 ≤ p → p ≤ points s → r ≡ rowAt s l p
-  unfolding rowsTest rowList rowAt entryOf
-  row-read T z {r} {p} e h at low high =
-      let back : 1 + (p - 1) ≡ p = omega arith in
-      e ∙ ap (λ (x : ℕ). getD T x 0) at
-      ∙ part-at T rowList h s l size (p - 1) (omega (arith, ranks-length (isRow s l) 1 (points s) 0))
-      ∙ ranks-at (isRow s l) (points s) 0 (p - 1) (omega arith)
-      ∙ ap (λ (x : ℕ). if isRow s l x then countUpTo (isRow s l) x else 0) back
-
+  -- what is read at a place of the table of points
   pub point-read : (T : List ℕ) (z : ℕ) {r i : ℕ} → r ≡ entryOf T z → z ≡ 64 * sizeIndex s l + (i - 1) → 1 ≤ i → i ≤ rowCount s l → pointsTest T ≡ true → r ≡ pointOf s l i
   unfolding pointsTest pointList pointOf rowCount entryOf
   point-read T z {r} {i} e at low high h =
@@ -139,43 +127,221 @@ module _ (s l : ℕ) (size : sized s l ≡ true) where
 
 -- ---- tags and made rows
 
+-- what f gives for each row from number i + 1 on, of which elimination left these
+unfoldable pub gone : {A : Type 0} → (ℕ → Remainder → A) → ℕ → List Remainder → List A
+gone f i [] = []
+gone f i (u ∷ us) = f i u ∷ gone f (suc i) us
+
+gone-at : {A : Type 0} (f : ℕ → Remainder → A) (d : A) (us : List Remainder) (i k : ℕ) → k < length us → getD (gone f i us) k d ≡ f (i + k) (getD us k nothing)
+unfolding gone
+gone-at f d [] i k h = absurd (omega arith)
+gone-at f d (u ∷ us) i zero h = ap (λ (x : ℕ). f x u) (sym (add-zero i))
+gone-at f d (u ∷ us) i (suc k) h =
+    let z : suc i + k ≡ i + suc k = omega arith in
+    gone-at f d us (suc i) k (omega arith) ∙ ap (λ (x : ℕ). f x (getD us k nothing)) z
+
 -- a list with its length in front
 abbrev counted : List ℕ → List ℕ
 counted M = length M ∷ M
 
--- the records of rows from number i + 1 on, of which elimination left these, where t tags are before them
-unfoldable pub recordsFrom : ℕ → ℕ → List Remainder → List (List ℕ)
-recordsFrom i t [] = []
-recordsFrom i t (u ∷ us) =
+-- the rows that row i + 1 is made of
+unfoldable pub madeLeft : ℕ → Remainder → List ℕ
+madeLeft i u = elim (eqb (u .last) 0) [ true ↦ counted (passing (λ a. has a (u .left .rows)) 1 i) | false ↦ 0 ∷ [] ]
+
+-- whether its tag is as a set says, and these rows are few
+rowTest : ℕ → ℕ → Remainder → Bool
+rowTest set i u =
     elim (eqb (u .last) 0) [
-      | true ↦ (0 ∷ counted (passing (λ a. has a (u .left .rows)) 1 i)) ∷ recordsFrom (suc i) t us
-      | false ↦ (suc t ∷ 0 ∷ []) ∷ recordsFrom (suc i) (suc t) us
+      | true ↦ not (has (suc i) set) && leb (length (passing (λ a. has a (u .left .rows)) 1 i)) 35
+      | false ↦ has (suc i) set
     ]
 
--- whether the records stand one behind the other in a table, the first at place a, and another table says where each begins
+all : List Bool → Bool
+all [] = true
+all (b ∷ bs) = b && all bs
+
+all-at : (bs : List Bool) → all bs ≡ true → (k : ℕ) → getD bs k true ≡ true
+unfolding all
+all-at [] h k = refl
+all-at (b ∷ bs) h zero = and-left b (all bs) h
+all-at (b ∷ bs) h (suc k) = all-at bs (and-right b (all bs) h) k
+
+-- the tagged rows of each size, as a set; elimination finds the same
+unfoldable pub tagSet : ℕ → ℕ → ℕ
+tagSet s l =
+    getD (766 ∷ 2558 ∷ 8958 ∷ 2883582 ∷ 155189246 ∷ 9164554238 ∷ 567497457662 ∷ 35742884036606 ∷ 2269530639302654 ∷ 144680346417299454 ∷ []) (sizeIndex s l) 0
+
+leftTest : ℕ → ℕ → Bool
+leftTest s l = all (gone (rowTest (tagSet s l)) 0 (quickly s l))
+
+left-tested : sizesTest leftTest ≡ true
+unfolding leftTest all rowTest tagSet sizeIndex gone madeLeft passing setUp cardAlong rowSet goThrough quickly courseOf placeOn chosenAt dual throughCount points xOf yOf onLine chosen affineItems isRow polynomial elementTimesX productOver product elementPower elementInverse has greatest add reduced reducedBy remainderOf next
+left-tested = refl
+
+module _ (s l : ℕ) (size : sized s l ≡ true) where
+  gone-row : {A : Type 0} (f : ℕ → Remainder → A) (d : A) (i : ℕ) → suc i ≤ rowCount s l → getD (gone f 0 (quickly s l)) i d ≡ f i (remainder s l (suc i))
+  unfolding remainder eliminated
+  gone-row f d i ui =
+      let long : length {A = Remainder} (eliminated s l) ≡ rowCount s l =
+      remainders-length (affineItems s l) (λ i. itemSet s l (pointOf s l i)) (rowCount s l) in
+      let z : i ≡ suc i - 1 = omega arith in
+      ap (λ (x : List Remainder). getD (gone f 0 x) i d) (quickly-is s l size)
+      ∙ gone-at f d (eliminated s l) 0 i (omega (arith, long))
+      ∙ ap₂ (λ (x y : ℕ). f x (getD (eliminated s l) y nothing)) (zero-add i) z
+
+  module _ (i : ℕ) (ui : suc i ≤ rowCount s l) where
+    -- by whether something is left: the row is tagged, and made of none; or it is not, and is made of those that elimination found
+    untagged : eqb (remainder s l (suc i) .last) 0 ≡ true → isTagged s l (suc i) ≡ false
+    untagged e = tagged-no s l (suc i) (omega arith) ui (eqb-true _ 0 e)
+
+    tagged : eqb (remainder s l (suc i) .last) 0 ≡ false → isTagged s l (suc i) ≡ true
+    tagged e = tagged-yes s l (suc i) (omega arith) ui (eqb-false _ 0 e)
+
+    found : eqb (remainder s l (suc i) .last) 0 ≡ true → passing (λ a. has a (remainder s l (suc i) .left .rows)) 1 i ≡ affineFamily s l .made (suc i)
+    found e =
+        let z : i ≡ suc i - 1 = omega arith in
+        passing-is (λ a. has a (remainder s l (suc i) .left .rows)) i
+        ∙ ap (listed (λ a. has a (remainder s l (suc i) .left .rows))) z
+        ∙ sym (made-is s l (suc i) (omega arith) ui (untagged e))
+
+    none : eqb (remainder s l (suc i) .last) 0 ≡ false → affineFamily s l .made (suc i) ≡ []
+    none e = made-none s l (suc i) (omega arith) ui (tagged e)
+
+    made-row : getD (gone madeLeft 0 (quickly s l)) i [] ≡ counted (affineFamily s l .made (suc i))
+    unfolding madeLeft
+    made-row = gone-row madeLeft [] i ui ∙ go (eqb (remainder s l (suc i) .last) 0) refl
+      where
+        go : (b : Bool) → eqb (remainder s l (suc i) .last) 0 ≡ b
+            → elim b [ true ↦ counted (passing (λ a. has a (remainder s l (suc i) .left .rows)) 1 i) | false ↦ 0 ∷ [] ] ≡ counted (affineFamily s l .made (suc i))
+        go true e = ap counted (found e)
+        go false e = ap counted (sym (none e))
+
+    row-tested : rowTest (tagSet s l) i (remainder s l (suc i)) ≡ true
+    unfolding leftTest
+    row-tested =
+        sym (gone-row (rowTest (tagSet s l)) true i ui)
+        ∙ all-at (gone (rowTest (tagSet s l)) 0 (quickly s l)) (sizes-at s l size leftTest left-tested) i
+
+    left-row : (isTagged s l (suc i) ≡ has (suc i) (tagSet s l)) × (length (affineFamily s l .made (suc i)) ≤ 35)
+    unfolding rowTest
+    left-row = go (eqb (remainder s l (suc i) .last) 0) refl row-tested
+      where
+        go : (b : Bool) → eqb (remainder s l (suc i) .last) 0 ≡ b
+            → elim b [
+              | true ↦ not (has (suc i) (tagSet s l)) && leb (length (passing (λ a. has a (remainder s l (suc i) .left .rows)) 1 i)) 35
+              | false ↦ has (suc i) (tagSet s l)
+            ] ≡ true → (isTagged s l (suc i) ≡ has (suc i) (tagSet s l)) × (length (affineFamily s l .made (suc i)) ≤ 35)
+        go true e h = (
+          untagged e ∙ sym (not-true _ (and-left (not (has (suc i) (tagSet s l))) _ h)),
+          omega (arith, ap length (found e), leb-true (length (passing (λ a. has a (remainder s l (suc i) .left .rows)) 1 i)) 35 (and-right (not (has (suc i) (tagSet s l))) _ h)),
+        )
+        go false e h = (tagged e ∙ sym h, omega (arith, ap length (none e)))
+
+  -- the same of row i, from 1
+  tagged-is : (i : ℕ) → 1 ≤ i → i ≤ rowCount s l → isTagged s l i ≡ has i (tagSet s l)
+  tagged-is zero li ui = absurd (omega arith)
+  tagged-is (suc i) li ui = left-row i ui .0
+
+  pub made-few : (i : ℕ) → 1 ≤ i → i ≤ rowCount s l → length (affineFamily s l .made i) ≤ 35
+  made-few zero li ui = absurd (omega arith)
+  made-few (suc i) li ui = left-row i ui .1
+
+-- ---- the tag of each row
+
+-- the tags of the rows, from row 1
+unfoldable pub tagList : ℕ → ℕ → List ℕ
+tagList s l = ranks (λ i. has i (tagSet s l)) 1 (points s) 0
+
+unfoldable pub rowTagsTest : List ℕ → Bool
+rowTagsTest T = sizesTest (partTest T tagList)
+
+-- and from row 0
+unfoldable pub rowTags : ℕ → ℕ → List ℕ
+rowTags s l = 0 ∷ tagList s l
+
+row-tag : (s l : ℕ) → sized s l ≡ true → (i : ℕ) → i ≤ rowCount s l → getD (rowTags s l) i 0 ≡ affineFamily s l .tagOfRow i
+unfolding rowTags tagList affineFamily isTagged rowCount
+row-tag s l size zero ui = refl
+row-tag s l size (suc i) ui =
+    let e : suc 0 + i ≡ suc i = omega arith in
+    ranks-at (λ i. has i (tagSet s l)) (points s) 0 i (omega (arith, count-most (isRow s l) (points s)))
+    ∙ ap (λ (x : ℕ). if has x (tagSet s l) then countUpTo (λ i. has i (tagSet s l)) x else 0) e
+    ∙ ap₂ (λ (b : Bool) (n : ℕ). if b then n else 0) (sym (tagged-is s l size (suc i) (omega arith) ui))
+    (sym (count-ext (isTagged s l) (λ i. has i (tagSet s l)) (suc i) (λ k a b. tagged-is s l size k a (omega arith))))
+
+-- what is read at a place of the table
+pub row-tag-read : (s l : ℕ) → sized s l ≡ true → (T : List ℕ) (z : ℕ) {r i : ℕ} → r ≡ entryOf T z → z ≡ 64 * sizeIndex s l + (i - 1) → 1 ≤ i → i ≤ rowCount s l
+    → rowTagsTest T ≡ true → r ≡ affineFamily s l .tagOfRow i
+unfolding rowTagsTest rowTags tagList rowCount entryOf
+row-tag-read s l size T z {r} {i} e at low high h =
+    let f : suc (i - 1) ≡ i = omega arith in
+    e ∙ ap (λ (x : ℕ). getD T x 0) at
+    ∙ part-at T tagList h s l size (i - 1) (omega (arith, ranks-length (λ k. has k (tagSet s l)) 1 (points s) 0, count-most (isRow s l) (points s)))
+    ∙ ap (λ (x : ℕ). getD (rowTags s l) x 0) f
+    ∙ row-tag s l size i high
+
+-- ---- the tag at each point
+
+-- the entries of a list at some places (with the list bound, so that it is computed once)
+unfoldable pub entries : List ℕ → List ℕ → List ℕ
+entries T places = map (λ k. getD T k 0) places
+
+unfoldable pub pointTags : ℕ → ℕ → List ℕ
+pointTags s l = entries (rowTags s l) (ranks (isRow s l) 1 (points s) 0)
+
+unfoldable pub pointTagsTest : List ℕ → Bool
+pointTagsTest T = sizesTest (partTest T pointTags)
+
+-- the size's part of the table
+pub point-tags : (s l : ℕ) → sized s l ≡ true → (T : List ℕ) {P : List ℕ} → P ≡ take 64 (drop (64 * sizeIndex s l) T) → pointTagsTest T ≡ true
+    → (p : ℕ) → 1 ≤ p → p ≤ points s → getD P (p - 1) 0 ≡ tagAt s l p
+unfolding pointTagsTest pointTags entries tagAt rowAt rowCount
+point-tags s l size T {P} e h p low high =
+    let back : 1 + (p - 1) ≡ p = omega arith in
+    let long = ranks-length (isRow s l) 1 (points s) 0 in
+    let f : ℕ → ℕ = λ i. getD (rowTags s l) i 0 in
+    ap (λ (x : List ℕ). getD x (p - 1) 0) e
+    ∙ getD-take 64 (drop (64 * sizeIndex s l) T) (p - 1) 0 (omega (arith, points-few s (sized-offered s l size) .1))
+    ∙ getD-drop (64 * sizeIndex s l) T (p - 1) 0
+    ∙ part-at T pointTags h s l size (p - 1) (omega (arith, long, length-map (ranks (isRow s l) 1 (points s) 0) f))
+    ∙ map-at f (ranks (isRow s l) 1 (points s) 0) (p - 1) (omega (arith, long))
+    ∙ ap f (ranks-at (isRow s l) (points s) 0 (p - 1) (omega arith) ∙ ap (rowAt s l) back)
+    ∙ row-tag s l size (rowAt s l p) (go (isRow s l p))
+  where
+    go : (b : Bool) → (if b then countUpTo (isRow s l) p else 0) ≤ countUpTo (isRow s l) (points s)
+    go true = count-up (isRow s l) p (points s) high
+    go false = omega arith
+
+-- and how long it is
+pub part-long : (s l : ℕ) → sized s l ≡ true → (T : List ℕ) {P : List ℕ} → P ≡ take 64 (drop (64 * sizeIndex s l) T) → length T ≡ 640 → 64 ≤ length P
+part-long s l size T e n =
+    omega (arith, ap length e, length-take 64 (drop (64 * sizeIndex s l) T), length-drop (64 * sizeIndex s l) T, index-high s l size)
+
+-- ---- the rows that a row is made of
+
+-- whether the lists stand one behind the other in a table, the first at place a, and another table says where each begins
 unfoldable pub standTest : List ℕ → ℕ → List ℕ → List (List ℕ) → Bool
 standTest S a T [] = true
 standTest [] a T (r ∷ rs) = false
 standTest (hi ∷ []) a T (r ∷ rs) = false
 standTest (hi ∷ lo ∷ S) a T (r ∷ rs) = eqb (256 * hi + lo) a && (begins T r && standTest S (a + length r) (drop (length r) T) rs)
 
-stand-at : (S : List ℕ) (a : ℕ) (T : List ℕ) (rs : List (List ℕ)) → standTest S a (drop a T) rs ≡ true → (k n : ℕ) → n < length (getD rs k [])
-    → getD T (256 * getD S (2 * k) 0 + getD S (2 * k + 1) 0 + n) 0 ≡ getD (getD rs k []) n 0
-unfolding standTest
-stand-at S a T [] h k n u = absurd (omega arith)
-stand-at [] a T (r ∷ rs) h k n u = absurd (true≢false (sym h))
-stand-at (hi ∷ []) a T (r ∷ rs) h k n u = absurd (true≢false (sym h))
-stand-at (hi ∷ lo ∷ S) a T (r ∷ rs) h zero n u =
-    ap (λ (x : ℕ). getD T (x + n) 0) (eqb-true (256 * hi + lo) a (and-left (eqb (256 * hi + lo) a) _ h))
-    ∙ sym (getD-drop a T n 0)
-    ∙ begins-at (drop a T) r (and-left (begins (drop a T) r) _ (and-right (eqb (256 * hi + lo) a) _ h)) n u
-stand-at (hi ∷ lo ∷ S) a T (r ∷ rs) h (suc k) n u =
+stand-at : (S : List ℕ) (a : ℕ) (T : List ℕ) (rs : List (List ℕ)) → standTest S a (drop a T) rs ≡ true → (k : ℕ)
+    → begins (drop (256 * getD S (2 * k) 0 + getD S (2 * k + 1) 0) T) (getD rs k []) ≡ true
+unfolding standTest begins
+stand-at S a T [] h k = refl
+stand-at [] a T (r ∷ rs) h k = absurd (true≢false (sym h))
+stand-at (hi ∷ []) a T (r ∷ rs) h k = absurd (true≢false (sym h))
+stand-at (hi ∷ lo ∷ S) a T (r ∷ rs) h zero =
+    ap (λ (x : ℕ). begins (drop x T) r) (eqb-true (256 * hi + lo) a (and-left (eqb (256 * hi + lo) a) _ h))
+    ∙ and-left (begins (drop a T) r) _ (and-right (eqb (256 * hi + lo) a) _ h)
+stand-at (hi ∷ lo ∷ S) a T (r ∷ rs) h (suc k) =
     let e : 2 * suc k ≡ suc (suc (2 * k)) = omega arith in
     let f : 2 * suc k + 1 ≡ suc (suc (2 * k + 1)) = omega arith in
-    ap₂ (λ (x y : ℕ). getD T (256 * getD (hi ∷ lo ∷ S) x 0 + getD (hi ∷ lo ∷ S) y 0 + n) 0) e f
+    ap₂ (λ (x y : ℕ). begins (drop (256 * getD (hi ∷ lo ∷ S) x 0 + getD (hi ∷ lo ∷ S) y 0) T) (getD rs k [])) e f
     ∙ stand-at S (a + length r) T rs
     (ap (λ (x : List ℕ). standTest S (a + length r) x rs) (sym (drop-drop (length r) a T))
-    ∙ and-right (begins (drop a T) r) _ (and-right (eqb (256 * hi + lo) a) _ h)) k n u
+    ∙ and-right (begins (drop a T) r) _ (and-right (eqb (256 * hi + lo) a) _ h)) k
 
 unfoldable pub standAt : List ℕ → List ℕ → ℕ → List (List ℕ) → Bool
 standAt S T a rs = standTest S a (drop a T) rs
@@ -184,174 +350,78 @@ standAt S T a rs = standTest S a (drop a T) rs
 unfoldable pub standFrom : List ℕ → List ℕ → ℕ → List (List ℕ) → Bool
 standFrom S T z rs = standAt (drop (2 * z) S) T (256 * getD S (2 * z) 0 + getD S (2 * z + 1) 0) rs
 
-unfoldable pub recordsPart : List ℕ → List ℕ → ℕ → ℕ → Bool
-recordsPart S T s l = standFrom S T (64 * sizeIndex s l) (recordsFrom 0 0 (quickly s l))
-
-part-stands : (S T : List ℕ) (z : ℕ) (rs : List (List ℕ)) → standFrom S T z rs ≡ true → (k n : ℕ) → n < length (getD rs k [])
-    → getD T (wideEntryOf S (z + k) + n) 0 ≡ getD (getD rs k []) n 0
+part-stands : (S T : List ℕ) (z : ℕ) (rs : List (List ℕ)) → standFrom S T z rs ≡ true → (k : ℕ) → begins (drop (wideEntryOf S (z + k)) T) (getD rs k []) ≡ true
 unfolding standFrom standAt wideEntryOf entryOf
-part-stands S T z rs h k n u =
+part-stands S T z rs h k =
     let e : 2 * (z + k) ≡ 2 * z + 2 * k = omega arith in
     let f : 2 * (z + k) + 1 ≡ 2 * z + (2 * k + 1) = omega arith in
-    ap₂ (λ (x y : ℕ). getD T (256 * x + y + n) 0) (ap (λ (x : ℕ). getD S x 0) e ∙ sym (getD-drop (2 * z) S (2 * k) 0))
+    ap₂ (λ (x y : ℕ). begins (drop (256 * x + y) T) (getD rs k [])) (ap (λ (x : ℕ). getD S x 0) e ∙ sym (getD-drop (2 * z) S (2 * k) 0))
     (ap (λ (x : ℕ). getD S x 0) f ∙ sym (getD-drop (2 * z) S (2 * k + 1) 0))
-    ∙ stand-at (drop (2 * z) S) (256 * getD S (2 * z) 0 + getD S (2 * z + 1) 0) T rs h k n u
+    ∙ stand-at (drop (2 * z) S) (256 * getD S (2 * z) 0 + getD S (2 * z + 1) 0) T rs h k
 
-unfoldable pub recordsTest : List ℕ → List ℕ → Bool
-recordsTest S T = sizesTest (recordsPart S T)
+unfoldable pub madePart : List ℕ → List ℕ → ℕ → ℕ → Bool
+madePart S T s l = standFrom S T (64 * sizeIndex s l) (gone madeLeft 0 (quickly s l))
 
-module _ (s l : ℕ) where
-  -- each is the record of its row
-  records-at : (us : List Remainder) (i k : ℕ) → ((n : ℕ) → n < length us → getD us n nothing ≡ remainder s l (suc (i + n))) → i + length us ≤ rowCount s l
-      → k < length us → getD (recordsFrom i (countUpTo (isTagged s l) i) us) k [] ≡ rowRecord s l (suc (i + k))
-  unfolding recordsFrom rowRecord
-  records-at [] i k same few u = absurd (omega arith)
-  records-at (w ∷ us) i k same few u = go (λ n h. records-at us (suc i) n rest (omega arith) h) (eqb (w .last) 0) refl k u
+unfoldable pub madeTest : List ℕ → List ℕ → Bool
+madeTest S T = sizesTest (madePart S T)
+
+pub made-in : (s l i : ℕ) → sized s l ≡ true → (S T : List ℕ) → 1 ≤ i → i ≤ rowCount s l → madeTest S T ≡ true → MadeIn s l i S T
+unfolding madeTest madePart
+made-in s l i size S T li ui h =
+    let e : suc (i - 1) ≡ i = omega arith in
+    let D = drop (wideEntryOf S (64 * sizeIndex s l + (i - 1))) T in
+    record {
+      stands = begins-is D (counted (affineFamily s l .made i))
+          (ap (begins D) (sym (made-row s l size (i - 1) (omega arith) ∙ ap (λ (x : ℕ). counted (affineFamily s l .made x)) e))
+          ∙ part-stands S T (64 * sizeIndex s l) (gone madeLeft 0 (quickly s l)) (sizes-at s l size (madePart S T) h) (i - 1));
+    }
+
+-- a list that stands behind its length at the front of another
+module _ (D M : List ℕ) (h : take (suc (length M)) D ≡ counted M) where
+  counted-first : getD D 0 0 ≡ length M
+  counted-first = sym (getD-take (suc (length M)) D 0 0 (omega arith)) ∙ ap (λ (x : List ℕ). getD x 0 0) h
+
+  counted-rest : take (length M) (drop 1 D) ≡ M
+  counted-rest = go D h
     where
-      this : w ≡ remainder s l (suc i)
-      this = same 0 (omega arith) ∙ ap (λ (x : ℕ). remainder s l (suc x)) (add-zero i)
+      go : (D : List ℕ) → take (suc (length M)) D ≡ counted M → take (length M) (drop 1 D) ≡ M
+      go [] e = absurd (omega (arith, ap length e))
+      go (x ∷ D) e = ap (drop 1) e
 
-      li : 1 ≤ suc i
-      li = omega arith
+  counted-room : suc (length M) ≤ length D
+  counted-room = omega (arith, ap length h, length-take (suc (length M)) D)
 
-      ui : suc i ≤ rowCount s l
-      ui = omega arith
+-- what the code reads of the tables
+module _ (s l : ℕ) {i a z n : ℕ} {S T : List ℕ} (I : MadeIn s l i S T) (f : a ≡ wideEntryOf S z) (g : z ≡ 64 * sizeIndex s l + (i - 1)) (c : n ≡ entryOf T a) where
+  here : take (suc (length (affineFamily s l .made i))) (drop a T) ≡ counted (affineFamily s l .made i)
+  here = ap (λ (x : ℕ). take (suc (length (affineFamily s l .made i))) (drop x T)) (f ∙ ap (wideEntryOf S) g) ∙ I .stands
 
-      rest : (n : ℕ) → n < length us → getD us n nothing ≡ remainder s l (suc (suc i + n))
-      rest n h = let e : i + suc n ≡ suc i + n = omega arith in same (suc n) (omega arith) ∙ ap (λ (x : ℕ). remainder s l (suc x)) e
+  made-count : n ≡ length (affineFamily s l .made i)
+  unfolding entryOf
+  made-count = c ∙ ap (λ (x : ℕ). getD T x 0) (sym (add-zero a)) ∙ sym (getD-drop a T 0 0) ∙ counted-first (drop a T) (affineFamily s l .made i) here
 
-      left : List ℕ
-      left = passing (λ a. has a (w .left .rows)) 1 i
+  pub made-room : a + 1 + n ≤ length T
+  made-room = omega (arith, made-count, counted-room (drop a T) (affineFamily s l .made i) here, length-drop a T)
 
-      before : ℕ
-      before = countUpTo (isTagged s l) i
-
-      -- of a row without a tag, and of a tagged one
-      no : eqb (w .last) 0 ≡ true → isTagged s l (suc i) ≡ false
-      no e = tagged-no s l (suc i) li ui (ap (λ (x : Remainder). x .last) (sym this) ∙ eqb-true (w .last) 0 e)
-
-      yes : eqb (w .last) 0 ≡ false → isTagged s l (suc i) ≡ true
-      yes e = tagged-yes s l (suc i) li ui (λ z. eqb-false (w .last) 0 e (ap (λ (x : Remainder). x .last) this ∙ z))
-
-      made : eqb (w .last) 0 ≡ true → left ≡ affineFamily s l .made (suc i)
-      made e =
-          let z : i ≡ suc i - 1 = omega arith in
-          passing-is (λ a. has a (w .left .rows)) i
-          ∙ ap₂ (λ (u : Remainder) (n : ℕ). listed (λ a. has a (u .left .rows)) n) this z
-          ∙ sym (made-is s l (suc i) li ui (no e))
-
-      untagged : eqb (w .last) 0 ≡ true → 0 ∷ counted left ≡ affineFamily s l .tagOfRow (suc i) ∷ counted (affineFamily s l .made (suc i))
-      untagged e = ap₂ (λ (t : ℕ) (m : List ℕ). t ∷ counted m) (sym (tag-none s l (suc i) li ui (no e))) (made e)
-
-      tagged-one : eqb (w .last) 0 ≡ false → suc before ∷ 0 ∷ [] ≡ affineFamily s l .tagOfRow (suc i) ∷ counted (affineFamily s l .made (suc i))
-      tagged-one e =
-          let n : suc before ≡ countUpTo (isTagged s l) (suc i) = omega (arith, ap indicator (yes e)) in
-          ap₂ (λ (t : ℕ) (m : List ℕ). t ∷ counted m) (n ∙ sym (tag-of s l (suc i) li ui (yes e))) (sym (made-none s l (suc i) li ui (yes e)))
-
-      here : {r : List ℕ} → r ≡ affineFamily s l .tagOfRow (suc i) ∷ counted (affineFamily s l .made (suc i))
-          → r ≡ affineFamily s l .tagOfRow (suc (i + 0)) ∷ counted (affineFamily s l .made (suc (i + 0)))
-      here e = e ∙ ap (λ (x : ℕ). affineFamily s l .tagOfRow (suc x) ∷ counted (affineFamily s l .made (suc x))) (sym (add-zero i))
-
-      later : (c : ℕ) (k : ℕ) → c ≡ countUpTo (isTagged s l) (suc i)
-          → getD (recordsFrom (suc i) (countUpTo (isTagged s l) (suc i)) us) k [] ≡ rowRecord s l (suc (suc i + k))
-          → getD (recordsFrom (suc i) c us) k [] ≡ rowRecord s l (suc (i + suc k))
-      later c k e ih =
-          let z : suc i + k ≡ i + suc k = omega arith in
-          ap (λ (x : ℕ). getD (recordsFrom (suc i) x us) k []) e ∙ ih ∙ ap (λ (x : ℕ). rowRecord s l (suc x)) z
-
-      go : ((k : ℕ) → k < length us → getD (recordsFrom (suc i) (countUpTo (isTagged s l) (suc i)) us) k [] ≡ rowRecord s l (suc (suc i + k)))
-          → (b : Bool) → eqb (w .last) 0 ≡ b → (k : ℕ) → k < suc (length us)
-          → getD (elim b [
-            | true ↦ (0 ∷ counted left) ∷ recordsFrom (suc i) before us
-            | false ↦ (suc before ∷ 0 ∷ []) ∷ recordsFrom (suc i) (suc before) us
-          ]) k [] ≡ rowRecord s l (suc (i + k))
-      go ih true e zero h = here (untagged e)
-      go ih false e zero h = here (tagged-one e)
-      go ih true e (suc k) h = later before k (omega (arith, ap indicator (no e))) (ih k (omega arith))
-      go ih false e (suc k) h = later (suc before) k (omega (arith, ap indicator (yes e))) (ih k (omega arith))
-
-module _ (s l : ℕ) (size : sized s l ≡ true) where
-  eliminated-length : length {A = Remainder} (eliminated s l) ≡ rowCount s l
-  unfolding eliminated
-  eliminated-length = remainders-length (affineItems s l) (λ i. itemSet s l (pointOf s l i)) (rowCount s l)
-
-  record-is : (i : ℕ) → 1 ≤ i → i ≤ rowCount s l → getD (recordsFrom 0 0 (eliminated s l)) (i - 1) [] ≡ rowRecord s l i
-  unfolding remainder
-  record-is i li ui =
-      let e : suc (0 + (i - 1)) ≡ i = omega arith in
-      records-at s l (eliminated s l) 0 (i - 1)
-      (λ n h. let z : n ≡ suc (0 + n) - 1 = omega arith in ap (λ (x : ℕ). getD (eliminated s l) x nothing) z)
-      (omega (arith, eliminated-length)) (omega (arith, eliminated-length))
-      ∙ ap (rowRecord s l) e
-
-  -- what is read of a record
-  pub record-read : (S T : List ℕ) (a z : ℕ) {r i k : ℕ} → r ≡ entryOf T (a + k) → a ≡ wideEntryOf S z → z ≡ 64 * sizeIndex s l + (i - 1)
-      → 1 ≤ i → i ≤ rowCount s l → k < length (rowRecord s l i) → recordsTest S T ≡ true → r ≡ getD (rowRecord s l i) k 0
-  unfolding recordsTest recordsPart entryOf
-  record-read S T a z {r} {i} {k} e f g li ui u h =
-      e
-      ∙ ap (λ (x : ℕ). getD T (x + k) 0) (f ∙ ap (wideEntryOf S) g)
-      ∙ part-stands S T (64 * sizeIndex s l) (recordsFrom 0 0 (quickly s l)) (sizes-at s l size (recordsPart S T) h) (i - 1) k (rw (quickly-is s l size, record-is i li ui) u)
-      ∙ ap (λ (x : List Remainder). getD (getD (recordsFrom 0 0 x) (i - 1) []) k 0) (quickly-is s l size)
-      ∙ ap (λ (x : List ℕ). getD x k 0) (record-is i li ui)
-
-  -- a record is short
-  pub record-few : (i : ℕ) → 1 ≤ i → i ≤ rowCount s l → length (rowRecord s l i) ≤ 66
-  unfolding rowRecord
-  record-few i li ui = go (isTagged s l i) refl
-    where
-      go : (b : Bool) → isTagged s l i ≡ b → suc (suc (length (affineFamily s l .made i))) ≤ 66
-      go true e = omega (arith, ap length (made-none s l i li ui e))
-      go false e =
-          omega (
-            arith,
-            ap length (made-is s l i li ui e),
-            listed-length (λ a. has a (remainder s l i .left .rows)) (i - 1),
-            count-most (λ a. has a (remainder s l i .left .rows)) (i - 1),
-            rows-high s l size,
-          )
+  pub made-part : take (a + 1 + n - (a + 1)) (drop (a + 1) T) ≡ affineFamily s l .made i
+  made-part =
+      let e : a + 1 + n - (a + 1) ≡ length (affineFamily s l .made i) = omega (arith, made-count) in
+      rw (e, ← drop-drop 1 a T) (counted-rest (drop a T) (affineFamily s l .made i) here)
 
 -- ---- how many tags
 
--- of how many rows something is left
-leftCount : List Remainder → ℕ
-leftCount [] = 0
-leftCount (u ∷ us) = indicator (not (eqb (u .last) 0)) + leftCount us
-
-left-count : (s l : ℕ) (us : List Remainder) (i : ℕ) → ((n : ℕ) → n < length us → getD us n nothing ≡ remainder s l (suc (i + n))) → i + length us ≤ rowCount s l
-    → countUpTo (isTagged s l) i + leftCount us ≡ countUpTo (isTagged s l) (i + length us)
-unfolding leftCount isTagged
-left-count s l [] i same few = omega (arith, ap (countUpTo (isTagged s l)) (add-zero i))
-left-count s l (w ∷ us) i same few =
-    let z : i + suc (length us) ≡ suc i + length us = omega arith in
-    omega (arith, left-count s l us (suc i) rest (omega arith), ap indicator this, ap (countUpTo (isTagged s l)) z)
-  where
-    rest : (n : ℕ) → n < length us → getD us n nothing ≡ remainder s l (suc (suc i + n))
-    rest n h = let e : i + suc n ≡ suc i + n = omega arith in same (suc n) (omega arith) ∙ ap (λ (x : ℕ). remainder s l (suc x)) e
-
-    here : w ≡ remainder s l (suc i)
-    here = same 0 (omega arith) ∙ ap (λ (x : ℕ). remainder s l (suc x)) (add-zero i)
-
-    this : isTagged s l (suc i) ≡ not (eqb (w .last) 0)
-    this = rw (inside-yes (rowCount s l) (suc i) (omega arith) (omega arith)) (ap (λ (u : Remainder). not (eqb (u .last) 0)) (sym here))
-
 tagsTest : ℕ → ℕ → Bool
-tagsTest s l = eqb (leftCount (quickly s l)) (tagNumbers s l)
+tagsTest s l = eqb (countUpTo (λ i. has i (tagSet s l)) (rowCount s l)) (tagNumbers s l)
 
 tags-tested : sizesTest tagsTest ≡ true
-unfolding tagsTest leftCount tagNumbers passing setUp cardAlong rowSet goThrough quickly courseOf placeOn chosenAt dual throughCount points xOf yOf onLine chosen affineItems isRow polynomial elementTimesX productOver product elementPower elementInverse has greatest add reduced reducedBy remainderOf next
+unfolding tagsTest tagNumbers tagSet sizeIndex has rowCount points xOf yOf onLine chosen isRow polynomial elementTimesX productOver product
 tags-tested = refl
 
 pub tag-count : (s l : ℕ) → sized s l ≡ true → affineFamily s l .tags ≡ tagNumbers s l
-unfolding affineFamily tagsTest remainder
+unfolding affineFamily tagsTest
 tag-count s l size =
-    let long = eliminated-length s l size in
-    sym (ap (countUpTo (isTagged s l)) (zero-add (rowCount s l)) ∙ refl)
-    ∙ sym (ap (λ (n : ℕ). countUpTo (isTagged s l) (0 + n)) long)
-    ∙ sym (left-count s l (eliminated s l) 0 (λ n h. let z : n ≡ suc (0 + n) - 1 = omega arith in ap (λ (x : ℕ). getD (eliminated s l) x nothing) z) (omega (arith, long)))
-    ∙ zero-add (leftCount (eliminated s l))
-    ∙ ap leftCount (sym (quickly-is s l size))
-    ∙ eqb-true (leftCount (quickly s l)) (tagNumbers s l) (sizes-at s l size tagsTest tags-tested)
+    count-ext (isTagged s l) (λ i. has i (tagSet s l)) (rowCount s l) (tagged-is s l size)
+    ∙ eqb-true (countUpTo (λ i. has i (tagSet s l)) (rowCount s l)) (tagNumbers s l) (sizes-at s l size tagsTest tags-tested)
 
 -- what is read of the code's table of them
 unfoldable pub numberTest : List ℕ → ℕ → ℕ → Bool

@@ -1,12 +1,12 @@
 -- The tags of the affine family: they stand at the rows of which elimination leaves something, in row order, and every other row is the XOR
 -- of the earlier rows that it found. It holds for all s and l.
-use Rattle.fips197.proofs.Kit.{_≡_, refl, sym, ap, _∙_, Bool, true, false, not, List, [], _∷_, _++_, ℕ, zero, suc, _-_, _≤_, _<_, _↔_, _⊎_, inl, inr, arith, eqb, ltb, ltb-true, ltb-false, eqb-true, eq-eqb, ne-eqb, getD, not-true}
+use Rattle.fips197.proofs.Kit.{_≡_, refl, sym, ap, _∙_, Bool, true, false, not, _&&_, List, [], _∷_, _++_, ℕ, zero, suc, _+_, _-_, _≤_, _<_, _↔_, arith, add-one, add-zero, eqb, ltb, ltb-true, ltb-false, eqb-true, eq-eqb, ne-eqb, getD, not-true}
 use Rattle.blocks.specs.Block.{if_then_else_}
 use Rattle.incidence.specs.Count.{indicator, countUpTo, listed, inside}
 use Rattle.incidence.specs.Family.{Earlier, parity}
 use Rattle.incidence.proofs.Booleans.{and-right, and-both, and-false-r, not-both}
-use Rattle.incidence.proofs.Counting.{last-or, inside-yes, count-before}
-use Rattle.incidence.proofs.Listing.{Member, listed-at, listed-rank}
+use Rattle.incidence.proofs.Counting.{inside-yes, count-before, count-up}
+use Rattle.incidence.proofs.Listing.{Member, listed-at, listed-rank, stands}
 use Rattle.affine.specs.Lines.{onLine, affineItems, lineOf, pointOf, rowCount}
 use Rattle.affine.specs.Elimination.{has, nothing}
 use Rattle.affine.specs.Affine.{itemSet, eliminated, remainder, isTagged, affineFamily, SumOfEarlier, TagsByRule}
@@ -25,7 +25,7 @@ module _ (p : ℕ → Bool) (v : ℕ) where
   nth : (k : ℕ) → 1 ≤ k → k ≤ countUpTo p v → Member p v (k - 1) (getD (listed p v) (k - 1) 0)
   nth k l u = listed-at p v (k - 1) (omega arith)
 
-  nth-rank : (k : ℕ) → 1 ≤ k → k ≤ countUpTo p v → countUpTo p (getD (listed p v) (k - 1) 0) ≡ k
+  pub nth-rank : (k : ℕ) → 1 ≤ k → k ≤ countUpTo p v → countUpTo p (getD (listed p v) (k - 1) 0) ≡ k
   nth-rank k l u = omega (arith, count-here _ (nth k l u .low) (nth k l u .passes), nth k l u .rank)
 
   rank-nth : (i : ℕ) → 1 ≤ i → i ≤ v → p i ≡ true → getD (listed p v) (countUpTo p i - 1) 0 ≡ i
@@ -36,14 +36,30 @@ module _ (p : ℕ → Bool) (v : ℕ) where
   rank-high : (i : ℕ) → 1 ≤ i → i ≤ v → p i ≡ true → countUpTo p i ≤ countUpTo p v
   rank-high i l u t = omega (arith, count-here i l t, count-before p v i l u t)
 
--- more numbers have no fewer that pass
-count-up : (p : ℕ → Bool) (a b : ℕ) → a ≤ b → countUpTo p a ≤ countUpTo p b
-count-up p a zero h = let e : a ≡ 0 = omega arith in omega (arith, ap (countUpTo p) e)
-count-up p a (suc b) h = go (λ w. count-up p a b w) (last-or a b h)
-  where
-    go : (a ≤ b → countUpTo p a ≤ countUpTo p b) → (a ≡ suc b) ⊎ (a ≤ b) → countUpTo p a ≤ countUpTo p (suc b)
-    go rest (inl e) = omega (arith, ap (countUpTo p) e)
-    go rest (inr w) = omega (arith, rest w)
+-- the numbers that pass p and whose place among these passes q
+module _ (p q : ℕ → Bool) where
+  abbrev pub both : ℕ → Bool
+  both x = p x && q (countUpTo p x)
+
+  pub both-count : (n : ℕ) → countUpTo both n ≡ countUpTo q (countUpTo p n)
+  both-count zero = refl
+  both-count (suc n) = go (both-count n) (p (suc n))
+    where
+      go : countUpTo both n ≡ countUpTo q (countUpTo p n) → (b : Bool)
+          → countUpTo both n + indicator (b && q (countUpTo p n + indicator b)) ≡ countUpTo q (countUpTo p n + indicator b)
+      go ih true = rw (add-one (countUpTo p n)) (omega (arith, ih))
+      go ih false = rw (add-zero (countUpTo p n)) (omega (arith, ih))
+
+  -- the k-th of them
+  pub both-nth : (n k : ℕ) → 1 ≤ k → k ≤ countUpTo q (countUpTo p n)
+      → getD (listed p n) (getD (listed q (countUpTo p n)) (k - 1) 0 - 1) 0 ≡ getD (listed both n) (k - 1) 0
+  both-nth n k l u =
+      let i = getD (listed q (countUpTo p n)) (k - 1) 0 in
+      let x = getD (listed p n) (i - 1) 0 in
+      let M : Member q (countUpTo p n) (k - 1) i = nth q (countUpTo p n) k l u in
+      let N : Member p n (i - 1) x = nth p n i (M .low) (M .high) in
+      sym (stands both n x (k - 1) (N .low) (N .high) (and-both (N .passes) (ap q (nth-rank p n i (M .low) (M .high)) ∙ M .passes))
+      (both-count (x - 1) ∙ ap (countUpTo q) (N .rank) ∙ M .rank))
 
 -- the numbers listed are earlier
 earlier-last : (i a : ℕ) (l : List ℕ) → 1 ≤ a → a < i → Earlier i l → Earlier i (l ++ (a ∷ []))

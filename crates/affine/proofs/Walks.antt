@@ -1,10 +1,10 @@
--- The rows of a card are had along its line, and the cards of a row from its point: at the origin all chosen lines; elsewhere the one chosen
+-- The tags of a card are had along its line, and the cards of a row from its point: at the origin all chosen lines; elsewhere the one chosen
 -- line through it, and then the lines ax + by = 1 for (b, a) along the point's dual.
-use Rattle.fips197.proofs.Kit.{_≡_, refl, sym, ap, ap₂, _∙_, Bool, true, false, true≢false, [], _∷_, _++_, ℕ, zero, suc, _+_, _-_, _/_, _%_, _^_, _≤_, _<_, arith, zero-mod, eqb, leb, eqb-true, eqb-false, ne-eqb, leb-true, leb-false, le-leb, lt-leb, length, length-append, bitXor, xor-comm}
+use Rattle.fips197.proofs.Kit.{_≡_, refl, sym, ap, ap₂, _∙_, Bool, true, false, _&&_, true≢false, List, [], _∷_, _++_, ℕ, zero, suc, _+_, _-_, _/_, _%_, _^_, _≤_, _<_, arith, zero-mod, eqb, leb, eqb-true, eqb-false, ne-eqb, leb-true, leb-false, le-leb, lt-leb, length, getD, length-append, bitXor, xor-comm}
 use native.Mathlib.Nat.{zero-div}
 use Rattle.blocks.specs.Block.{if_then_else_}
 use Rattle.incidence.specs.Count.{countUpTo, listed, inside}
-use Rattle.incidence.specs.Family.{rowsOf, itemsOf}
+use Rattle.incidence.specs.Family.{itemsOf, tagsOf}
 use Rattle.incidence.proofs.Booleans.{and-false-l, and-false-r}
 use Rattle.incidence.proofs.Counting.{Found, any-found, count-some, inside-low, inside-high}
 use Rattle.incidence.proofs.Listing.{Member, listed-at, listed-ext, none-listed}
@@ -12,13 +12,32 @@ use Rattle.affine.specs.declared.Line.{Line}
 use Rattle.affine.specs.declared.Course.{Course}
 use Rattle.affine.specs.Field.{product, elementInverse}
 use Rattle.affine.specs.Lines.{points, xOf, yOf, onLine, chosen, crossing, affineItems, lineOf, isRow, pointOf, rowCount}
-use Rattle.affine.specs.Affine.{sized, affineFamily}
-use Rattle.affine.specs.Walk.{firsts, courseOf, placeOn, rowAt, rowsMet, chosenAt, dual, throughCount, throughAt}
+use Rattle.affine.specs.Affine.{sized, isTagged, affineFamily}
+use Rattle.affine.specs.Walk.{firsts, courseOf, placeOn, met, chosenAt, dual, throughCount, throughAt}
 use Rattle.affine.proofs.FieldLaws.{Field, xor-equal, zero-left, zero-right}
 use Rattle.affine.proofs.Meeting.{of-chosen, of-crossing, x-low, y-low, same-point, held, Proper, chosen-proper, crossing-proper, chosen-through, crossing-one}
 use Rattle.affine.proofs.Disjunct as disjunct
+use Rattle.affine.proofs.Tagging.{nth-rank, both, both-count, both-nth, row-low, row-high}
 use Rattle.affine.proofs.Listings.{Among, Passing, listed-firsts, listed-places, firsts-length}
 use Rattle.affine.proofs.Along.{along, divided}
+
+-- the row that point p is, 0 where it is none, and its tag, 0 where it has none
+unfoldable pub rowAt : ℕ → ℕ → ℕ → ℕ
+rowAt s l p = if isRow s l p then countUpTo (isRow s l) p else 0
+
+unfoldable pub tagAt : ℕ → ℕ → ℕ → ℕ
+tagAt s l p = affineFamily s l .tagOfRow (rowAt s l p)
+
+-- at most one entry a place
+pub met-few : (s : ℕ) (C : Course) (T : List ℕ) (n : ℕ) → length (met s C T n) ≤ n
+unfolding met
+met-few s C T zero = omega arith
+met-few s C T (suc n) = go (met-few s C T n) (eqb (getD T (placeOn s C n - 1) 0) 0)
+  where
+    go : length (met s C T n) ≤ n → (b : Bool)
+        → length (if b then met s C T n else met s C T n ++ (getD T (placeOn s C n - 1) 0 ∷ [])) ≤ suc n
+    go ih true = omega arith
+    go ih false = omega (arith, length-append (met s C T n) (getD T (placeOn s C n - 1) 0 ∷ []))
 
 module _ (s l : ℕ) (size : sized s l ≡ true) where
   -- the field of s
@@ -40,34 +59,55 @@ module _ (s l : ℕ) (size : sized s l ≡ true) where
   line-along : (L : Line) → Proper s F L → Passing (onLine s L) (points s) (placeOn s (courseOf s L)) (2 ^ s)
   line-along L P = along s F L (P .low-a) (P .low-b) (P .low-c) (P .some)
 
-  -- ---- the rows of a card
+  -- ---- the tags of a card
 
-  -- a place at which a row is met adds it
-  met-next : (C : Course) (t : ℕ) → 1 ≤ placeOn s C t
-      → rowsMet s l C (suc t)
-      ≡ (if isRow s l (placeOn s C t) then rowsMet s l C t ++ (countUpTo (isRow s l) (placeOn s C t) ∷ []) else rowsMet s l C t)
-  unfolding rowsMet rowAt
-  met-next C t low = go (isRow s l (placeOn s C t)) refl
+  -- whether point p is a row with a tag
+  abbrev tagPoint : ℕ → Bool
+  tagPoint = both (isRow s l) (isTagged s l)
+
+  -- the tag at a point, by its place among these
+  tag-among : (p : ℕ) → tagAt s l p ≡ (if tagPoint p then countUpTo tagPoint p else 0)
+  unfolding tagAt rowAt affineFamily isTagged
+  tag-among p = go (isRow s l p)
     where
-      go : (b : Bool) → isRow s l (placeOn s C t) ≡ b → rowsMet s l C (suc t)
-          ≡ (if b then rowsMet s l C t ++ (countUpTo (isRow s l) (placeOn s C t) ∷ []) else rowsMet s l C t)
-      go true e =
-          let h : 0 < countUpTo (isRow s l) (placeOn s C t) = count-some (isRow s l) (placeOn s C t) (placeOn s C t) low (omega arith) e in
-          rw (e, ne-eqb (countUpTo (isRow s l) (placeOn s C t)) 0 (λ z. omega arith))
-      go false e = rw e
+      go : (b : Bool) → affineFamily s l .tagOfRow (if b then countUpTo (isRow s l) p else 0)
+          ≡ (if b && isTagged s l (countUpTo (isRow s l) p) then countUpTo tagPoint p else 0)
+      go true = rw (both-count (isRow s l) (isTagged s l) p)
+      go false = refl
 
-  -- the rows of card j, along its line
-  pub rows-along : (j : ℕ) → 1 ≤ j → j ≤ affineItems s l → rowsOf (affineFamily s l) j ≡ rowsMet s l (courseOf s (lineOf s l j)) (2 ^ s)
-  unfolding affineFamily rowsOf rowCount pointOf rowsMet
-  rows-along j lj uj =
-      listed-ext (λ i. affineFamily s l .on i j) (λ i. onLine s (lineOf s l j) (pointOf s l i)) (rowCount s l) (λ i a b. disjunct.on-point s l size i j a b lj uj)
-      ∙ listed-places P (isRow s l) (rowsMet s l C) refl (λ t h. met-next C t (P .low t h))
-    where
-      C : Course
-      C = courseOf s (lineOf s l j)
+  -- a table that has the tag at each point
+  module _ (T : List ℕ) (tags : (p : ℕ) → 1 ≤ p → p ≤ points s → getD T (p - 1) 0 ≡ tagAt s l p) where
+    -- a place at which there is one adds it
+    met-next : (C : Course) (t : ℕ) → 1 ≤ placeOn s C t → placeOn s C t ≤ points s
+        → met s C T (suc t) ≡ (if tagPoint (placeOn s C t) then met s C T t ++ (countUpTo tagPoint (placeOn s C t) ∷ []) else met s C T t)
+    unfolding met
+    met-next C t low high = rw (tags (placeOn s C t) low high ∙ tag-among (placeOn s C t)) (go (tagPoint (placeOn s C t)) refl)
+      where
+        n : ℕ
+        n = countUpTo tagPoint (placeOn s C t)
 
-      P : Passing (onLine s (lineOf s l j)) (points s) (placeOn s C) (2 ^ s)
-      P = line-along (lineOf s l j) (card-proper j lj uj)
+        go : (b : Bool) → tagPoint (placeOn s C t) ≡ b
+            → (if eqb (if b then n else 0) 0 then met s C T t else met s C T t ++ ((if b then n else 0) ∷ [])) ≡ (if b then met s C T t ++ (n ∷ []) else met s C T t)
+        go true e =
+            let h : 0 < n = count-some tagPoint (placeOn s C t) (placeOn s C t) low (omega arith) e in
+            rw (ne-eqb n 0 (λ z. omega arith))
+        go false e = refl
+
+    -- the tags of card j, along its line
+    pub tags-along : (j : ℕ) → 1 ≤ j → j ≤ affineItems s l → tagsOf (affineFamily s l) j ≡ met s (courseOf s (lineOf s l j)) T (2 ^ s)
+    unfolding affineFamily tagsOf rowCount pointOf met
+    tags-along j lj uj =
+        listed-ext _ (λ k. onLine s (lineOf s l j) (getD (listed tagPoint (points s)) (k - 1) 0)) (affineFamily s l .tags)
+        (λ k a b. disjunct.on-point s l size (affineFamily s l .rowOfTag k) j (row-low s l k a b) (row-high s l k a b) lj uj
+        ∙ ap (onLine s (lineOf s l j)) (both-nth (isRow s l) (isTagged s l) (points s) k a b))
+        ∙ ap (listed (λ k. onLine s (lineOf s l j) (getD (listed tagPoint (points s)) (k - 1) 0))) (sym (both-count (isRow s l) (isTagged s l) (points s)))
+        ∙ listed-places P tagPoint (met s C T) refl (λ t h. met-next C t (P .low t h) (P .high t h))
+      where
+        C : Course
+        C = courseOf s (lineOf s l j)
+
+        P : Passing (onLine s (lineOf s l j)) (points s) (placeOn s C) (2 ^ s)
+        P = line-along (lineOf s l j) (card-proper j lj uj)
 
   -- ---- the cards of a point
 
@@ -255,6 +295,11 @@ module _ (s l : ℕ) (size : sized s l ≡ true) where
     pub point-row : isRow s l (pointOf s l i) ≡ true
     point-row = point .passes
 
+    -- the tag at its point is its own
+    pub point-tag : tagAt s l (pointOf s l i) ≡ affineFamily s l .tagOfRow i
+    unfolding tagAt rowAt pointOf rowCount
+    point-tag = ap (affineFamily s l .tagOfRow) (rw point-row (nth-rank (isRow s l) (points s) i li ui))
+
     -- the cards of row i
     pub items-along : itemsOf (affineFamily s l) i ≡ firsts (throughAt s l (pointOf s l i)) (throughCount s l (pointOf s l i))
     unfolding affineFamily itemsOf
@@ -265,36 +310,17 @@ module _ (s l : ℕ) (size : sized s l ≡ true) where
   -- ---- a number out of range, and how many there are
 
   -- a number out of range has none
-  pub rows-out : (j : ℕ) → inside (affineItems s l) j ≡ false → rowsOf (affineFamily s l) j ≡ []
-  unfolding affineFamily rowsOf
-  rows-out j e =
-      none-listed (λ i. affineFamily s l .on i j) (rowCount s l)
-      (λ i. and-false-l _ (onLine s (lineOf s l j) (pointOf s l i)) (and-false-r (inside (rowCount s l) i) _ e))
+  pub tags-out : (j : ℕ) → inside (affineItems s l) j ≡ false → tagsOf (affineFamily s l) j ≡ []
+  unfolding affineFamily tagsOf
+  tags-out j e =
+      none-listed _ (affineFamily s l .tags)
+      (λ k. and-false-l _ (onLine s (lineOf s l j) (pointOf s l (affineFamily s l .rowOfTag k))) (and-false-r (inside (rowCount s l) (affineFamily s l .rowOfTag k)) _ e))
 
   pub items-out : (i : ℕ) → inside (rowCount s l) i ≡ false → itemsOf (affineFamily s l) i ≡ []
   unfolding affineFamily itemsOf
   items-out i e =
       none-listed (affineFamily s l .on i) (affineItems s l)
       (λ j. and-false-l _ (onLine s (lineOf s l j) (pointOf s l i)) (and-false-l _ (inside (affineItems s l) j) e))
-
-  -- at most one row a place
-  met-few : (C : Course) (n : ℕ) → length (rowsMet s l C n) ≤ n
-  unfolding rowsMet
-  met-few C zero = omega arith
-  met-few C (suc n) = go (met-few C n) (eqb (rowAt s l (placeOn s C n)) 0)
-    where
-      go : length (rowsMet s l C n) ≤ n → (b : Bool)
-          → length (if b then rowsMet s l C n else rowsMet s l C n ++ (rowAt s l (placeOn s C n) ∷ [])) ≤ suc n
-      go ih true = omega arith
-      go ih false = omega (arith, length-append (rowsMet s l C n) (rowAt s l (placeOn s C n) ∷ []))
-
-  -- so a card is on at most 2^s rows
-  pub rows-few : (j : ℕ) → length (rowsOf (affineFamily s l) j) ≤ 2 ^ s
-  rows-few j = go (inside (affineItems s l) j) refl
-    where
-      go : (b : Bool) → inside (affineItems s l) j ≡ b → length (rowsOf (affineFamily s l) j) ≤ 2 ^ s
-      go true e = rw (rows-along j (inside-low _ j e) (inside-high _ j e)) (met-few (courseOf s (lineOf s l j)) (2 ^ s))
-      go false e = rw (rows-out j e) (omega arith)
 
   -- a row has at most 2^s + 1 cards
   pub count-few : (p : ℕ) → throughCount s l p ≤ 2 ^ s + 1

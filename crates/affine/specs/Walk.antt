@@ -1,17 +1,17 @@
 -- The points of a line and the lines through a point, in rising order, one after the other. What the functions of this crate ask of each
 -- other; no contract that another crate relies on cites it. Assumes nothing.
+use mathlib.Core.Path.{_≡_}
 use mathlib.Core.Bool.{true, false}
 use mathlib.Core.List.{List, [], _∷_, _++_}
 use Prim.Native.Nat.{ℕ, zero, suc, _+_, _-_, _*_, _^_}
 use lib.Dec.{eqb}
 use lib.Bits.{bitXor}
-use lib.ListN.{length, getD}
+use lib.ListN.{length, getD, take, drop}
 use Rattle.blocks.specs.Block.{if_then_else_}
-use Rattle.incidence.specs.Count.{countUpTo}
 use Rattle.affine.specs.declared.Line.{Line}
 use Rattle.affine.specs.declared.Course.{Course}
 use Rattle.affine.specs.Field.{product, elementInverse}
-use Rattle.affine.specs.Lines.{xOf, yOf, isRow}
+use Rattle.affine.specs.Lines.{xOf, yOf}
 use Rattle.affine.specs.Affine.{affineFamily}
 
 -- the first n of the numbers f 0, f 1, ..
@@ -29,15 +29,11 @@ courseOf s L =
 unfoldable pub placeOn : ℕ → Course → ℕ → ℕ
 placeOn s C t = if C .level then C .start * 2 ^ s + t + 1 else t * 2 ^ s + bitXor (C .start) (product s (C .slope) t) + 1
 
--- the row that point p is, 0 where it is none
-unfoldable pub rowAt : ℕ → ℕ → ℕ → ℕ
-rowAt s l p = if isRow s l p then countUpTo (isRow s l) p else 0
-
--- the rows at the first n places
-unfoldable pub rowsMet : ℕ → ℕ → Course → ℕ → List ℕ
-rowsMet s l C zero = []
-rowsMet s l C (suc n) =
-    if eqb (rowAt s l (placeOn s C n)) 0 then rowsMet s l C n else rowsMet s l C n ++ (rowAt s l (placeOn s C n) ∷ [])
+-- the entries, other than 0, of a table of points at the first n places
+unfoldable pub met : ℕ → Course → List ℕ → ℕ → List ℕ
+met s C T zero = []
+met s C T (suc n) =
+    if eqb (getD T (placeOn s C n - 1) 0) 0 then met s C T n else met s C T n ++ (getD T (placeOn s C n - 1) 0 ∷ [])
 
 -- which of the 2^s + 1 lines through the origin goes through another point: x = 0, or y = kx with k = y / x
 unfoldable pub chosenAt : ℕ → ℕ → ℕ
@@ -67,6 +63,7 @@ wideEntryOf t k = 256 * entryOf t (2 * k) + entryOf t (2 * k + 1)
 unfoldable pub sizeIndex : ℕ → ℕ → ℕ
 sizeIndex s l = if eqb s 2 then l - 3 else l
 
--- what the tables say of row i: its tag, 0 where it has none, how many rows it is made of, and these
-unfoldable pub rowRecord : ℕ → ℕ → ℕ → List ℕ
-rowRecord s l i = affineFamily s l .tagOfRow i ∷ length (affineFamily s l .made i) ∷ affineFamily s l .made i
+-- what two tables say of row i: the one, where its part begins in the other, and that, of how many rows it is made and of which
+pub record MadeIn (s l i : ℕ) (S T : List ℕ) : Type 0 where
+  pub stands : take (suc (length (affineFamily s l .made i))) (drop (wideEntryOf S (64 * sizeIndex s l + (i - 1))) T)
+      ≡ length (affineFamily s l .made i) ∷ affineFamily s l .made i

@@ -1,5 +1,5 @@
-// The rows of an item and the items of a row, in rising order, without a test of pairs: an item's line is solved, and each of its 2^s
-// points is the next row or none; the lines through a row's point are had the same way, from the point's dual line.
+// The tags of an item and the items of a row, in rising order, without a test of pairs: an item's line is solved, and each of its 2^s
+// points gives the next tag or none; the lines through a row's point are had the same way, from the point's dual line.
 use crate::Course;
 use crate::Line;
 use crate::field;
@@ -8,12 +8,12 @@ ghost use mathlib.Core.Path.{_≡_};
 ghost use mathlib.Core.Bool.{true};
 ghost use mathlib.Core.List.{_++_};
 ghost use Prim.Native.Nat.{_^_, _≤_, _<_};
-ghost use lib.ListN.{length, getD, drop};
-ghost use Rattle.incidence.specs.Family.{rowsOf, itemsOf};
+ghost use lib.ListN.{length, drop};
+ghost use Rattle.incidence.specs.Family.{itemsOf, tagsOf};
 ghost use Rattle.affine.specs.Field.{offered};
 ghost use Rattle.affine.specs.Lines.{chosen, crossing, lineOf};
 ghost use Rattle.affine.specs.Affine.{sized, affineFamily};
-ghost use Rattle.affine.specs.Walk.{firsts, courseOf, placeOn, rowsMet, chosenAt, dual, throughCount, throughAt};
+ghost use Rattle.affine.specs.Walk.{firsts, courseOf, placeOn, met, chosenAt, dual, throughCount, throughAt};
 
 // ---- lines
 
@@ -92,23 +92,22 @@ fn place_on(s: usize, course: Course, t: usize) -> usize
     t * q + (course.start ^ field::product(s, course.slope, t)) + 1
 }
 
-// ---- rows of an item
+// ---- tags of an item
 
-// Writes the rows at the points of a course to the front of out.
-fn write_rows(s: usize, l: usize, course: Course, out: &mut [usize]) -> usize
-    requires { ⌜ sized s l ≡ true ⌝ }
-    requires { ⌜ course .start < 2 ^ s ⌝ }
-    requires { ⌜ 9 ≤ length (now out) ⌝ }
-    ensures written { λ _. ⌜ now (out .exit) ≡ rowsMet s l course (2 ^ s) ++ drop (length (rowsMet s l course (2 ^ s))) (now (out .entry)) ⌝ }
-    ensures count { λ r. ⌜ r ≡ length (rowsMet s l course (2 ^ s)) ⌝ }
+// Writes the entries, other than 0, of a table of points at the points of a course to the front of out.
+fn write_tags(s: usize, course: Course, tags: &[u8], out: &mut [usize]) -> usize
+    requires { ⌜ offered s ≡ true ⌝ }
+    requires { ⌜ (course .start < 2 ^ s) × (64 ≤ length (now tags)) × (9 ≤ length (now out)) ⌝ }
+    ensures written { λ _. ⌜ now (out .exit) ≡ met s course (now (tags .entry)) (2 ^ s) ++ drop (length (met s course (now (tags .entry)) (2 ^ s))) (now (out .entry)) ⌝ }
+    ensures count { λ r. ⌜ r ≡ length (met s course (now (tags .entry)) (2 ^ s)) ⌝ }
 {
     let q = field::elements(s);
     let mut n = 0;
     let mut t = 0;
     while t < q {
-        let i = table::row_at(s, l, place_on(s, course, t));
-        if i != 0 {
-            out[n] = i;
+        let tag = table::read(tags, place_on(s, course, t) - 1);
+        if tag != 0 {
+            out[n] = tag;
             n += 1;
         }
         t += 1;
@@ -116,15 +115,21 @@ fn write_rows(s: usize, l: usize, course: Course, out: &mut [usize]) -> usize
     n
 }
 
-// Writes the rows that hold item j, rising, to the front of out, and gives how many; what is behind them stays.
-pub fn rows_of(s: usize, l: usize, j: usize, out: &mut [usize]) -> usize
+// Writes the tags whose rows hold item j, rising, to the front of out, and gives how many; what is behind them stays.
+pub fn tags_of(s: usize, l: usize, j: usize, out: &mut [usize]) -> usize
     requires { ⌜ sized s l ≡ true ⌝ }
     requires { ⌜ 9 ≤ length (now out) ⌝ }
-    ensures written { λ _. ⌜ now (out .exit) ≡ rowsOf (affineFamily s l) j ++ drop (length (rowsOf (affineFamily s l) j)) (now (out .entry)) ⌝ }
-    ensures count { λ r. ⌜ r ≡ length (rowsOf (affineFamily s l) j) ⌝ }
+    ensures written { λ _. ⌜ now (out .exit) ≡ tagsOf (affineFamily s l) j ++ drop (length (tagsOf (affineFamily s l) j)) (now (out .entry)) ⌝ }
+    ensures count { λ r. ⌜ r ≡ length (tagsOf (affineFamily s l) j) ⌝ }
 {
     if incidence::inside(table::items(s, l), j) {
-        write_rows(s, l, course_of(s, line_of(s, l, j)), out)
+        let all = table::POINT_TAGS;
+        write_tags(
+            s,
+            course_of(s, line_of(s, l, j)),
+            table::part(&all, s, l),
+            out,
+        )
     } else {
         0
     }
@@ -223,31 +228,21 @@ pub fn tag_of_row(s: usize, l: usize, i: usize) -> usize
     ensures { λ r. ⌜ r ≡ affineFamily s l .tagOfRow i ⌝ }
 {
     if incidence::inside(table::rows(s, l), i) {
-        table::record_at(s, l, i, 0)
+        table::row_tag(s, l, i)
     } else {
         0
     }
 }
 
-// How many earlier rows row i is made of, 0 where it has a tag.
-pub fn made_count(s: usize, l: usize, i: usize) -> usize
+// Writes the rows that row i is made of to the front of out, and gives how many; none where it has a tag. What is behind them stays.
+pub fn made_of(s: usize, l: usize, i: usize, out: &mut [u16]) -> usize
     requires { ⌜ sized s l ≡ true ⌝ }
-    ensures { λ r. ⌜ r ≡ length (affineFamily s l .made i) ⌝ }
+    requires { ⌜ 35 ≤ length (now out) ⌝ }
+    ensures written { λ _. ⌜ now (out .exit) ≡ affineFamily s l .made i ++ drop (length (affineFamily s l .made i)) (now (out .entry)) ⌝ }
+    ensures count { λ r. ⌜ r ≡ length (affineFamily s l .made i) ⌝ }
 {
     if incidence::inside(table::rows(s, l), i) {
-        table::record_at(s, l, i, 1)
-    } else {
-        0
-    }
-}
-
-// The row at place k, from 0, among those that row i is made of.
-pub fn made_at(s: usize, l: usize, i: usize, k: usize) -> usize
-    requires { ⌜ sized s l ≡ true ⌝ }
-    ensures { λ r. ⌜ r ≡ getD (affineFamily s l .made i) k 0 ⌝ }
-{
-    if k < made_count(s, l, i) {
-        table::record_at(s, l, i, 2 + k)
+        table::made_of(s, l, i, out)
     } else {
         0
     }

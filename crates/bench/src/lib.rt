@@ -7,6 +7,7 @@ use blocks::block::put;
 use blocks::block::put_at;
 use cipher::aes;
 use cipher::cmac;
+use cipher::engine;
 ghost use Prim.Native.Nat.{_≤_};
 ghost use lib.ListN.{length};
 
@@ -14,9 +15,10 @@ ghost use lib.ListN.{length};
 fn encipher_blocks(w: [u8; 176], input: &[u8], out: &mut [u8])
     requires { ⌜ length (now input) ≤ length (now out) ⌝ }
 {
+    let t = engine::tables();
     let count = input.len() / 16;
     copy_blocks(input, count, out);
-    aes::encipher_blocks(w, count, out);
+    aes::encipher_blocks(&t, w, count, out);
 }
 
 // Deciphers each block of input into out: copied, then all in place.
@@ -25,7 +27,7 @@ fn decipher_blocks(w: [u8; 176], input: &[u8], out: &mut [u8])
 {
     let count = input.len() / 16;
     copy_blocks(input, count, out);
-    aes::decipher_blocks(w, count, out);
+    engine::decipher_blocks(w, count, out);
 }
 
 // Enciphers each block of input into out by the plain engine, with its table taken once.

@@ -3,4 +3,6 @@ pub mod Doubling
 pub mod Numbers
 pub mod Slots
 pub mod Xor
+pub mod Zeros
 pub mod Loop
+pub mod Chaining

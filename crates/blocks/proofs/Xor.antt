@@ -1,6 +1,6 @@
 -- The laws of XOR and of bytes (fips197's Xor), passed on for the crates above; and equality of lists, as `same` decides it.
 use Rattle.fips197.proofs.Kit.{_≡_, refl, sym, ap, ap₂, _∙_, Bool, true, false, _&&_, List, [], _∷_, ℕ, _+_, _≤_, _<_, arith, add-one, eqb, length, getD, drop, drop-of-length-le, drop-cons, eqb-true, eq-eqb, ne-eqb}
-use Rattle.blocks.specs.Block.{same}
+use Rattle.blocks.specs.Block.{_⊕_, zeros, same}
 pub use Rattle.fips197.proofs.Xor.{⊕-comm, ⊕-assoc, ⊕-length, ⊕-cancel, ⊕-self, ⊕-zeros, ⊕-at, ⊕-bytes, ⊕-block, block-cancel}
 pub use Rattle.fips197.proofs.Xor.{byte-at, bytes-from, append-bytes, take-bytes, drop-bytes, zeros-bytes, zeros-block}
 
@@ -29,7 +29,7 @@ pub same-eq : (a b : List ℕ) → a ≡ b → same a b ≡ true
 same-eq a b e = ap (same a) (sym e) ∙ same-refl a
 
 -- lists from their first i elements on, which were equal, compare as their next elements and the rest do
-same-drop : (a b : List ℕ) (i : ℕ) → i < length a → i < length b
+pub same-drop : (a b : List ℕ) (i : ℕ) → i < length a → i < length b
     → same (drop i a) (drop i b) ≡ (eqb (getD a i 0) (getD b i 0) && same (drop (i + 1) a) (drop (i + 1) b))
 unfolding same
 same-drop a b i h k =
@@ -45,3 +45,21 @@ same-stop a b i h k e = same-drop a b i h k ∙ ap (λ (t : Bool). t && same (dr
 pub same-end : (a b : List ℕ) (i : ℕ) → length a ≤ i → length b ≤ i → same (drop i a) (drop i b) ≡ true
 unfolding same
 same-end a b i h k = ap₂ same (drop-of-length-le a h) (drop-of-length-le b k)
+
+-- lists of one length are equal exactly when their XOR is zero
+pub same-xor : (a b : List ℕ) (n : ℕ) → length a ≡ n → length b ≡ n → same a b ≡ same (a ⊕ b) (zeros n)
+same-xor a b n p q = go (same a b) refl (same (a ⊕ b) (zeros n)) refl
+  where
+    zero-if : same a b ≡ true → same (a ⊕ b) (zeros n) ≡ true
+    zero-if h = same-eq (a ⊕ b) (zeros n) (ap (λ (z : List ℕ). a ⊕ z) (sym (same-true a b h)) ∙ ⊕-self a ∙ ap zeros p)
+
+    only-if : same (a ⊕ b) (zeros n) ≡ true → same a b ≡ true
+    only-if h =
+        same-eq a b
+        (sym (⊕-cancel a b (omega arith)) ∙ ap (λ (z : List ℕ). z ⊕ b) (same-true (a ⊕ b) (zeros n) h) ∙ ⊕-comm (zeros n) b
+        ∙ ⊕-zeros b n (omega arith))
+
+    go : (s : Bool) → same a b ≡ s → (t : Bool) → same (a ⊕ b) (zeros n) ≡ t → s ≡ t
+    go true e t f = sym (zero-if e) ∙ f
+    go false e true f = sym e ∙ only-if f
+    go false e false f = refl

@@ -2,3 +2,4 @@
 pub mod Block
 pub mod Number
 pub mod Double
+pub mod Chain

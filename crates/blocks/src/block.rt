@@ -4,7 +4,7 @@ ghost use mathlib.Core.Path.{_≡_};
 ghost use Prim.Native.Nat.{_+_, _*_, _≤_};
 ghost use lib.ListN.{length, take, drop};
 ghost use mathlib.Core.List.{[], _∷_, _++_};
-ghost use Rattle.blocks.specs.Block.{_⊕_, slot, listOf, same};
+ghost use Rattle.blocks.specs.Block.{_⊕_, zeros, slot, listOf, same, allZero};
 ghost use Rattle.blocks.specs.Number.{number, bigEndian};
 ghost use Rattle.blocks.specs.Double.{double};
 
@@ -31,6 +31,35 @@ pub fn equal(a: [u8; 16], b: [u8; 16]) -> bool
             return false;
         }
         i += 1;
+    }
+    true
+}
+
+// Whether the block at a place of s is zero, by the OR of its bytes: without an early exit it compiles to one comparison.
+pub fn is_zero(s: &[u8], at: usize) -> bool
+    requires { ⌜ at + 16 ≤ length (now s) ⌝ }
+    ensures { λ r. ⌜ r ≡ same (take 16 (drop at (now (s .entry)))) (zeros 16) ⌝ }
+{
+    let mut any = 0u8;
+    let mut i = 0;
+    while i < 16 {
+        any |= s[at + i];
+        i += 1;
+    }
+    any == 0
+}
+
+// Whether the first n blocks of s are zero.
+pub fn all_zero(s: &[u8], n: usize) -> bool
+    requires { ⌜ 16 * n ≤ length (now s) ⌝ }
+    ensures { λ r. ⌜ r ≡ allZero (now (s .entry)) n ⌝ }
+{
+    let mut k = 0;
+    while k < n {
+        if !is_zero(s, 16 * k) {
+            return false;
+        }
+        k += 1;
     }
     true
 }
@@ -67,6 +96,14 @@ pub fn put_at(out: &mut [u8], at: usize, block: [u8; 16])
     ensures { λ _. ⌜ now (out .exit) ≡ take at (now (out .entry)) ++ (block ++ drop (at + 16) (now (out .entry))) ⌝ }
 {
     put(&mut out[at..], block);
+}
+
+// Writes bytes at a place of out; all else stays.
+pub fn put_bytes(out: &mut [u8], at: usize, text: &[u8])
+    requires { ⌜ at + length (now text) ≤ length (now out) ⌝ }
+    ensures { λ _. ⌜ now (out .exit) ≡ take at (now (out .entry)) ++ (now (text .entry) ++ drop (at + length (now (text .entry))) (now (out .entry))) ⌝ }
+{
+    bytes::copy(text, &mut out[at..]);
 }
 
 // Writes the first n blocks of s to the front of out; what is behind them stays.

@@ -7,7 +7,7 @@ use Rattle.stamp.specs.Front.{stampOf}
 use Rattle.files.specs.declared.Refusal.{Refusal}
 use Rattle.files.specs.Message.{itemCount, refuse3, refuse5, refuse8, Sound}
 use Rattle.files.specs.TagFile.{fileSize, codeOf, countOf, headOf, countFits, Formed}
-use Rattle.files.specs.Arguments.{refuse1, refuse2, refuse4, refuse7}
+use Rattle.files.specs.Arguments.{refuse1, refuse2, refuse4, refuse7, refuse9}
 use Rattle.incidence.proofs.Booleans.{and-left, and-right}
 use Rattle.files.proofs.Passing.{rest-passes, unless-passes, number-of}
 use Rattle.files.proofs.Messages.{plain3, plain5, headed}
@@ -84,8 +84,8 @@ reportable keys s f room r e h =
     record { files = comparable keys s f (verifyRefusal keys s f) refl (a .0); fits = roomy (itemCount s) room (rest-passes _ _ (a .1) .0) }
 
 pub replaceable : (keys f : List ℕ) (j : ℕ) (old new : List ℕ) (room : ℕ) (r : Refusal) → r ≡ replaceRefusal keys f j old new room → r .number ≡ 0
-    → Replaceable keys f j room
-unfolding replaceRefusal refuse8
+    → Replaceable keys f j old new room
+unfolding replaceRefusal refuse8 refuse9
 replaceable keys f j old new room r e h =
     let a = rest-passes _ _ (number-of r _ e h) in
     let b = rest-passes _ _ (a .1) in
@@ -99,5 +99,7 @@ replaceable keys f j old new room r e h =
       file = formed f (b .0);
       low = inside-low (countOf f) j n;
       high = inside-high (countOf f) j n;
+      short-old = leb-true _ _ (unless-passes (leb (length old) 1024) 9 1 (omega arith) (g .0));
+      short-new = leb-true _ _ (unless-passes (leb (length new) 1024) 9 2 (omega arith) (k .0));
       fits = roomy (fileSize (headOf f)) room (rest-passes _ _ (k .1) .0);
     }

@@ -34,9 +34,11 @@ pub record Reportable (keys s f : List ℕ) (room : ℕ) : Type 0 where
   pub fits : itemCount s ≤ room
 
 -- Replace
-pub record Replaceable (keys f : List ℕ) (j room : ℕ) : Type 0 where
+pub record Replaceable (keys f : List ℕ) (j : ℕ) (old new : List ℕ) (room : ℕ) : Type 0 where
   pub keys48 : length keys ≡ 48
   pub file : Formed f
   pub low : 1 ≤ j
   pub high : j ≤ countOf f
+  pub short-old : length old ≤ 1024
+  pub short-new : length new ≤ 1024
   pub fits : fileSize (headOf f) ≤ room

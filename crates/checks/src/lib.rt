@@ -1,6 +1,7 @@
 // What each call on whole messages refuses, in document 01's order: the first that applies. Each entry of a list is one function whose result
-// is that entry, and one that reads a file asks that the entries before it are none.
+// is that entry, and one that reads a file asks that the entries before it are none. Who checks a seal is handed the engine's tables.
 use blocks::block;
+use cipher::engine::Tables;
 use files::Refusal;
 use files::arguments;
 use files::message;
@@ -12,6 +13,7 @@ use files::refusals::unless;
 use files::tagfile;
 ghost use mathlib.Core.Path.{_≡_};
 ghost use lib.ListN.{length};
+ghost use Rattle.cipher.specs.Engine.{EngineTables};
 ghost use Rattle.files.specs.Message.{itemCount, refuse3};
 ghost use Rattle.files.specs.TagFile.{fileSize, refuse6, refuse20};
 ghost use Rattle.files.specs.Arguments.{refuse1, refuse7};
@@ -36,11 +38,12 @@ fn check_marks(s: &[u8], room: usize) -> Refusal
 }
 
 // Refusal 20, or none, under the seal key of a bundle.
-fn check_seal(keys: &[u8], f: &[u8]) -> Refusal
+fn check_seal(t: &Tables, keys: &[u8], f: &[u8]) -> Refusal
+    requires { ⌜ EngineTables (now t) ⌝ }
     requires { ⌜ (refuse1 (length (now keys)) .number ≡ 0) × (refuse6 (now f) .number ≡ 0) ⌝ }
     ensures { λ r. ⌜ r ≡ refuse20 (keysIn (now (keys .entry)) .seal) (now (f .entry)) ⌝ }
 {
-    tagfile::check_mac(block::block_at(keys, 32), f)
+    tagfile::check_mac(t, block::block_at(keys, 32), f)
 }
 
 // Refusal 21, or none.
@@ -83,7 +86,8 @@ pub fn tag_refusal(keys: &[u8], code: u64, s: &[u8], room: usize) -> Refusal
 }
 
 // Verify: 1, 3, 5, 6, 20, 21, 25.
-pub fn verify_refusal(keys: &[u8], s: &[u8], f: &[u8]) -> Refusal
+pub fn verify_refusal(t: &Tables, keys: &[u8], s: &[u8], f: &[u8]) -> Refusal
+    requires { ⌜ EngineTables (now t) ⌝ }
     ensures { λ r. ⌜ r ≡ verifyRefusal (now (keys .entry)) (now (s .entry)) (now (f .entry)) ⌝ }
 {
     let r = first2(arguments::check_keys(keys), message::check_header(s));
@@ -94,17 +98,18 @@ pub fn verify_refusal(keys: &[u8], s: &[u8], f: &[u8]) -> Refusal
     if r.number != 0 {
         return r;
     }
-    let seal = check_seal(keys, f);
+    let seal = check_seal(t, keys, f);
     let counts = check_counts(s, f);
     let numbers = check_numbers(s, f);
     first4(r, seal, counts, numbers)
 }
 
 // Report: as Verify, then 7.
-pub fn report_refusal(keys: &[u8], s: &[u8], f: &[u8], room: usize) -> Refusal
+pub fn report_refusal(t: &Tables, keys: &[u8], s: &[u8], f: &[u8], room: usize) -> Refusal
+    requires { ⌜ EngineTables (now t) ⌝ }
     ensures { λ r. ⌜ r ≡ reportRefusal (now (keys .entry)) (now (s .entry)) (now (f .entry)) room ⌝ }
 {
-    let r = verify_refusal(keys, s, f);
+    let r = verify_refusal(t, keys, s, f);
     if r.number != 0 {
         return r;
     }
@@ -113,6 +118,7 @@ pub fn report_refusal(keys: &[u8], s: &[u8], f: &[u8], room: usize) -> Refusal
 
 // Replace: 1, 6, 20, 8, 9, 7.
 pub fn replace_refusal(
+    t: &Tables,
     keys: &[u8],
     f: &[u8],
     j: u64,
@@ -120,6 +126,7 @@ pub fn replace_refusal(
     new: &[u8],
     room: usize,
 ) -> Refusal
+    requires { ⌜ EngineTables (now t) ⌝ }
     ensures { λ r. ⌜ r ≡ replaceRefusal (now (keys .entry)) (now (f .entry)) j (now (old .entry)) (now (new .entry)) room ⌝ }
 {
     let r = first2(arguments::check_keys(keys), tagfile::check(f));
@@ -128,7 +135,7 @@ pub fn replace_refusal(
     }
     first6(
         r,
-        check_seal(keys, f),
+        check_seal(t, keys, f),
         tagfile::check_number(f, j),
         arguments::check_item(old, 1),
         arguments::check_item(new, 2),

@@ -1,10 +1,11 @@
 -- SP 800-38B, section 6: CMAC with AES-128 (also RFC 4493). Document 01: card codes and seals. Assumes nothing.
 use mathlib.Core.List.{List, _∷_, _++_}
-use Prim.Native.Nat.{ℕ, zero, suc, _+_, _-_, _*_, _/_, max}
+use Prim.Native.Nat.{ℕ, _+_, _-_, _*_, _/_, max}
 use lib.Dec.{eqb}
 use lib.ListN.{length, take, drop}
 use Rattle.blocks.specs.Block.{if_then_else_, _⊕_, zeros}
 use Rattle.blocks.specs.Double.{double}
+use Rattle.blocks.specs.Chain.{chain}
 use Rattle.cipher.specs.Aes.{keyExpansion, cipher, encipher}
 use Rattle.cipher.specs.declared.cmac.MacKey.{MacKey}
 
@@ -27,16 +28,18 @@ padded l = l ++ (0x80 ∷ zeros (15 - length l))
 unfoldable pub lastBlock : List ℕ → List ℕ → List ℕ → List ℕ
 lastBlock k1 k2 l = if eqb (length l) 16 then l ⊕ k1 else padded l ⊕ k2
 
--- 6.2, steps 5 and 6: the chain over the first n blocks of m
-unfoldable pub chain : (List ℕ → List ℕ) → List ℕ → ℕ → List ℕ
-chain ciph m zero = zeros 16
-chain ciph m (suc n) = ciph (chain ciph m n ⊕ take 16 (drop (n * 16) m))
+-- 6.2, steps 3 and 4: all blocks as they are but the last
+unfoldable pub laidOut : List ℕ → List ℕ → List ℕ → List ℕ
+laidOut k1 k2 m =
+    let n = blockCount m - 1 in
+    take (n * 16) m ++ lastBlock k1 k2 (drop (n * 16) m)
 
--- 6.2, with the cipher and its subkeys at hand
+-- 6.2, with the cipher and its subkeys at hand: steps 5 and 6 over all blocks but the last, and then with the last. It is the chain over the
+-- message laid out (proofs/Chain.antt: mac-laid-out).
 unfoldable pub macBy : (List ℕ → List ℕ) → List ℕ → List ℕ → List ℕ → List ℕ
 macBy ciph k1 k2 m =
     let n = blockCount m - 1 in
-    ciph (chain ciph m n ⊕ lastBlock k1 k2 (drop (n * 16) m))
+    ciph (chain ciph (zeros 16) m n ⊕ lastBlock k1 k2 (drop (n * 16) m))
 
 -- 6.2: the MAC of m under key, all 16 bytes of it
 unfoldable pub cmac : List ℕ → List ℕ → List ℕ

@@ -1,19 +1,16 @@
-// CMAC with AES-128 (SP 800-38B, RFC 4493): of a message, and of a message in two parts that are read one after the other
-// where they lie. A caller with many messages prepares the key once, with `prepare`, and uses `mac_of_parts`.
+// CMAC with AES-128 (SP 800-38B, RFC 4493). A caller with many messages takes the engine's tables and prepares the key once, with `prepare`.
+// `mac` reads a message where it lies; `mac_in_place` is for one that may be written over: its last block is made ready where it stands, and
+// the MAC is one chain over whole blocks.
 use crate::aes;
-use crate::parts;
+use crate::engine;
+use crate::engine::Tables;
 use blocks::block;
-use fips197::sbox;
-use tables::round_tables;
-use tables::rounds;
 ghost use mathlib.Core.Path.{_≡_};
 ghost use mathlib.Core.List.{_++_};
-ghost use Prim.Native.Nat.{_+_, _-_, _/_, _%_, _≤_, _<_};
-ghost use lib.ListN.{length, drop};
-ghost use Rattle.fips197.specs.Block.{Tabulates};
-ghost use Rattle.tables.specs.RoundTables.{RoundTables, roundEntry};
-ghost use Rattle.cipher.specs.Aes.{sbox, cipher};
-ghost use Rattle.cipher.specs.Cmac.{lastBlock, chain, ready, macWith, cmac};
+ghost use Prim.Native.Nat.{_+_, _-_, _*_, _/_, _≤_, _<_};
+ghost use lib.ListN.{length, take, drop};
+ghost use Rattle.cipher.specs.Engine.{EngineTables};
+ghost use Rattle.cipher.specs.Cmac.{padded, lastBlock, laidOut, ready, macWith, cmac};
 
 // A key made ready: its schedule and the two subkeys.
 pub struct MacKey {
@@ -23,99 +20,93 @@ pub struct MacKey {
 }
 
 // The key made ready.
-pub fn prepare(key: [u8; 16]) -> MacKey
+pub fn prepare(t: &Tables, key: [u8; 16]) -> MacKey
+    requires { ⌜ EngineTables (now t) ⌝ }
     ensures { λ r. ⌜ r ≡ ready key ⌝ }
 {
     let schedule = aes::key_expansion(key);
-    let k1 = block::double(aes::encipher_with(schedule, [0u8; 16]));
+    let k1 = block::double(aes::encipher_with(t, schedule, [0u8; 16]));
     let k2 = block::double(k1);
     MacKey { schedule, k1, k2 }
 }
 
-// A chain on its way: its value, and how many bytes it has taken.
-struct Chain {
-    x: [u8; 16],
-    at: usize,
-}
-
-// The chain over the blocks that begin in the first part, but for the last block of all.
-fn chain_first(t: &[u32; 512], s: &[u8; 256], w: &[u8; 176], first: &[u8], second: &[u8]) -> Chain
-    requires { ⌜ RoundTables (now t) roundEntry ⌝ }
-    requires { ⌜ Tabulates (now s) sbox ⌝ }
-    requires { ⌜ length (now w) ≡ 176 ⌝ }
-    ensures { λ r. ⌜ (r .at % 16 ≡ 0) × (r .at ≤ length (now (first .entry)) + length (now (second .entry)) - 1) × (r .x ≡ chain (cipher (now (w .entry))) (now (first .entry) ++ now (second .entry)) (r .at / 16)) × (16 < length (now (first .entry)) + length (now (second .entry)) - r .at → length (now (first .entry)) ≤ r .at) ⌝ }
+// Fewer than 16 bytes, padded.
+fn padded(l: &[u8]) -> [u8; 16]
+    requires { ⌜ length (now l) < 16 ⌝ }
+    ensures { λ r. ⌜ r ≡ padded (now (l .entry)) ⌝ }
 {
-    let mut x = [0u8; 16];
-    let mut at = 0;
-    let end = first.len() + second.len();
-    while at < first.len() {
-        if end - at <= 16 {
-            return Chain { x, at };
-        }
-        let next = rounds::cipher(t, s, w, block::xor(x, parts::early(first, second, at)));
-        x = next;
-        at += 16;
+    let n = l.len();
+    let mut r = [0u8; 16];
+    let mut i = 0;
+    while i < n {
+        r[i] = l[i];
+        i += 1;
     }
-    Chain { x, at }
+    r[i] = 0x80;
+    r
 }
 
-// The chain over all blocks but the last. Most lie in the second part, and are read there at once.
-fn chain_all(t: &[u32; 512], s: &[u8; 256], w: &[u8; 176], first: &[u8], second: &[u8]) -> Chain
-    requires { ⌜ RoundTables (now t) roundEntry ⌝ }
-    requires { ⌜ Tabulates (now s) sbox ⌝ }
-    requires { ⌜ length (now w) ≡ 176 ⌝ }
-    ensures { λ r. ⌜ (r .at % 16 ≡ 0) × (r .at ≤ length (now (first .entry)) + length (now (second .entry)) - 1) × (r .x ≡ chain (cipher (now (w .entry))) (now (first .entry) ++ now (second .entry)) (r .at / 16)) × (length (now (first .entry)) + length (now (second .entry)) ≤ r .at + 16) ⌝ }
+// The last block, whole or padded, masked by a subkey.
+fn last_block(l: &[u8], k1: [u8; 16], k2: [u8; 16]) -> [u8; 16]
+    requires { ⌜ length (now l) ≤ 16 ⌝ }
+    ensures { λ r. ⌜ r ≡ lastBlock k1 k2 (now (l .entry)) ⌝ }
 {
-    let begun = chain_first(t, s, w, first, second);
-    let mut x = begun.x;
-    let mut at = begun.at;
-    let end = first.len() + second.len();
-    while 16 < end - at {
-        let block = block::block_at(second, at - first.len());
-        let next = rounds::cipher(t, s, w, block::xor(x, block));
-        x = next;
-        at += 16;
+    if l.len() == 16 {
+        return block::xor(block::block_at(l, 0), k1);
     }
-    Chain { x, at }
+    block::xor(padded(l), k2)
 }
 
-// The last block of two parts, whole or padded, masked by a subkey.
-fn last_block(first: &[u8], second: &[u8], at: usize, k1: [u8; 16], k2: [u8; 16]) -> [u8; 16]
-    requires { ⌜ (at ≤ length (now first) + length (now second)) × (length (now first) + length (now second) ≤ at + 16) ⌝ }
-    ensures { λ r. ⌜ r ≡ lastBlock k1 k2 (drop at (now (first .entry) ++ now (second .entry))) ⌝ }
+// Where the last block of n bytes begins.
+fn last_at(n: usize) -> usize
+    ensures { λ r. ⌜ (r ≡ 16 * ((n - 1) / 16)) × (r ≤ n) ⌝ }
 {
-    if first.len() + second.len() - at == 16 {
-        return block::xor(parts::block(first, second, at), k1);
-    }
-    block::xor(parts::padded(first, second, at), k2)
+    if n == 0 { 0 } else { 16 * ((n - 1) / 16) }
 }
 
-// CMAC of two parts, one after the other, under a key made ready. The tables are taken once for all blocks.
-pub fn mac_of_parts(key: MacKey, first: &[u8], second: &[u8]) -> [u8; 16]
-    ensures { λ r. ⌜ r ≡ macWith key (now (first .entry) ++ now (second .entry)) ⌝ }
+// CMAC of a message under a key made ready, read where it lies.
+pub fn mac(t: &Tables, key: MacKey, message: &[u8]) -> [u8; 16]
+    requires { ⌜ EngineTables (now t) ⌝ }
+    ensures { λ r. ⌜ r ≡ macWith key (now (message .entry)) ⌝ }
 {
-    let t = round_tables::table();
-    let s = sbox::table();
     let w = key.schedule;
     let k1 = key.k1;
     let k2 = key.k2;
-    let chain = chain_all(&t, &s, &w, first, second);
-    let x = chain.x;
-    let at = chain.at;
-    let last = last_block(first, second, at, k1, k2);
-    rounds::cipher(&t, &s, &w, block::xor(x, last))
+    let at = last_at(message.len());
+    let last = last_block(&message[at..], k1, k2);
+    let x = engine::absorb(t, &w, [0u8; 16], &message[0..at]);
+    engine::absorb(t, &w, x, &last)
 }
 
-// CMAC of a message in two parts.
-pub fn cmac_of_parts(key: [u8; 16], first: &[u8], second: &[u8]) -> [u8; 16]
-    ensures { λ r. ⌜ r ≡ cmac key (now (first .entry) ++ now (second .entry)) ⌝ }
+// CMAC of the first n bytes of buf under a key made ready. Their last block is laid out where it stands, with the bytes behind them up to its
+// end; what is behind it stays.
+pub fn mac_in_place(t: &Tables, key: MacKey, buf: &mut [u8], n: usize) -> [u8; 16]
+    requires { ⌜ EngineTables (now t) ⌝ }
+    requires { ⌜ 16 * ((n - 1) / 16) + 16 ≤ length (now buf) ⌝ }
+    ensures mac { λ r. ⌜ r ≡ macWith key (take n (now (buf .entry))) ⌝ }
+    ensures laid { λ _. ⌜ now (buf .exit) ≡ laidOut (key .k1) (key .k2) (take n (now (buf .entry))) ++ drop (16 * ((n - 1) / 16) + 16) (now (buf .entry)) ⌝ }
 {
-    mac_of_parts(prepare(key), first, second)
+    let w = key.schedule;
+    let k1 = key.k1;
+    let k2 = key.k2;
+    let at = last_at(n);
+    let last = last_block(&buf[at..n], k1, k2);
+    block::put_at(buf, at, last);
+    engine::absorb(t, &w, [0u8; 16], &buf[0..at + 16])
+}
+
+// CMAC of a message, with the engine's tables.
+pub fn cmac_with(t: &Tables, key: [u8; 16], message: &[u8]) -> [u8; 16]
+    requires { ⌜ EngineTables (now t) ⌝ }
+    ensures { λ r. ⌜ r ≡ cmac key (now (message .entry)) ⌝ }
+{
+    mac(t, prepare(t, key), message)
 }
 
 // CMAC of a message.
 pub fn cmac(key: [u8; 16], message: &[u8]) -> [u8; 16]
     ensures { λ r. ⌜ r ≡ cmac key (now (message .entry)) ⌝ }
 {
-    cmac_of_parts(key, &message[0..0], message)
+    let t = engine::tables();
+    cmac_with(&t, key, message)
 }

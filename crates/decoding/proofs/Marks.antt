@@ -1,11 +1,12 @@
 -- Arrays of marks: one mark written leaves the others, what two steps clear is what either clears, and an array whose marks are known is
 -- a list.
-use Rattle.fips197.proofs.Kit.{_≡_, refl, sym, ap, _∙_, subst, Bool, true, false, not, _&&_, _||_, List, [], _∷_, _++_, ℕ, zero, suc, _+_, _-_, _≤_, _<_, arith, eqb, length, getD, set, take, drop, length-set, take-append-drop, take-suc, drop-drop, getD-set-same, getD-set-other, drop-set-lt, eqb-true, eqb-false, ne-eqb}
-use Rattle.blocks.specs.Block.{if_then_else_}
+use Rattle.fips197.proofs.Kit.{_≡_, refl, sym, ap, ap₂, _∙_, subst, Bool, true, false, not, _&&_, _||_, List, [], _∷_, _++_, ℕ, zero, suc, _+_, _-_, _≤_, _<_, arith, eqb, length, getD, set, take, drop, length-set, take-append-drop, take-suc, drop-drop, getD-set-same, getD-set-other, drop-set-lt, eqb-true, eqb-false, ne-eqb}
+use Rattle.blocks.specs.Block.{if_then_else_, zeros}
 use Rattle.incidence.specs.Count.{indicator, countUpTo, anyUpTo}
-use Rattle.incidence.specs.Family.{Family}
+use Rattle.incidence.specs.Family.{Family, Lawful}
 use Rattle.incidence.specs.Report.{cleared, named, numberNamed, disagreeing, holdsNamed, someUnexplained, answerBy, answer}
 use Rattle.incidence.proofs.Counting.{count-ext, any-ext}
+use Rattle.incidence.proofs.Differences.{none-named}
 use Rattle.decoding.specs.Decoding.{marksOf, markIn, Marked, Cleared, isMarked, holdsMarked, unexplainedIn}
 
 -- ---- one mark is written
@@ -121,15 +122,15 @@ module _ (F : Family) (agrees : ℕ → Bool) {n : ℕ} {a b c : List ℕ} (all 
   unfolding holdsMarked holdsNamed
   holds-is i = any-ext _ _ n (λ j l u. ap (λ (t : Bool). F .on i j && t) (marked-named j l u))
 
-  pub unexplained-is : anyUpTo (unexplainedIn F agrees c n) (F .rows) ≡ someUnexplained F agrees n (F .rows)
+  unexplained-is : anyUpTo (unexplainedIn F agrees c n) (F .rows) ≡ someUnexplained F agrees n (F .rows)
   unfolding unexplainedIn someUnexplained
   unexplained-is = any-ext _ _ (F .rows) (λ i l u. ap (λ (t : Bool). not (agrees i) && not t) (holds-is i))
 
--- what is counted and found decides the answer
-pub answer-is : (F : Family) (agrees : ℕ → Bool) (n d rows names : ℕ) (found : Bool) → d ≡ F .limit → rows ≡ disagreeing agrees (F .rows)
-    → names ≡ numberNamed F agrees n → found ≡ someUnexplained F agrees n (F .rows) → answerBy d rows names found ≡ answer F agrees n
-unfolding answer
-answer-is F agrees n d rows names found p q r s = rw (p, q, r, s)
+  -- what is counted and found decides the answer
+  pub answer-is : (rows names : ℕ) → rows ≡ disagreeing agrees (F .rows) → names ≡ numberNamed F agrees n
+      → answerBy (F .limit) rows names (anyUpTo (unexplainedIn F agrees c n) (F .rows)) ≡ answer F agrees n
+  unfolding answer
+  answer-is rows names p q = rw (p, q, unexplained-is)
 
 -- marks that are known are a list
 module _ (p : ℕ → Bool) (n : ℕ) (before after : List ℕ) (M : Marked n (λ j. indicator (p j)) before after) (fits : n ≤ length before) where
@@ -150,3 +151,21 @@ module _ (p : ℕ → Bool) (n : ℕ) (before after : List ℕ) (M : Marked n (�
   marked-list =
       sym (take-append-drop n after) ∙ ap (λ (t : List ℕ). t ++ drop n after) (front n (omega arith))
       ∙ ap (λ (t : List ℕ). marksOf p n ++ t) (M .rest)
+
+-- ---- no item is named
+
+pub marks-none : (p : ℕ → Bool) (n : ℕ) → ((j : ℕ) → 1 ≤ j → j ≤ n → p j ≡ false) → marksOf p n ≡ zeros n
+unfolding marksOf
+marks-none p zero h = refl
+marks-none p (suc n) h =
+    ap₂ (λ (l : List ℕ) (b : Bool). l ++ (indicator b ∷ [])) (marks-none p n (λ j l u. h j l (omega arith))) (h (suc n) (omega arith) (omega arith))
+    ∙ snoc n
+  where
+    snoc : (n : ℕ) → zeros n ++ (0 ∷ []) ≡ zeros (suc n)
+    snoc zero = refl
+    snoc (suc n) = ap (λ (l : List ℕ). 0 ∷ l) (snoc n)
+
+-- where every row agrees, `intact` writes what `decode` does
+pub marks-agreeing : (F : Family) (agrees : ℕ → Bool) → ((i : ℕ) → 1 ≤ i → i ≤ F .rows → agrees i ≡ true) → Lawful F → (n : ℕ) → n ≤ F .items
+    → marksOf (named F agrees) n ≡ zeros n
+marks-agreeing F agrees all L n fits = marks-none (named F agrees) n (none-named F agrees all L n fits)

@@ -1,18 +1,24 @@
--- Document 01, Report, over two arrays of row sums: the message's and the tag file's (000, section 3.1: naïve decoding). Assumes nothing.
+-- Document 01, Report, over an array of differences: of each row, the XOR of the message's sum and the tag file's (000, section 3.1: naïve
+-- decoding). Assumes nothing.
 use mathlib.Core.Path.{_≡_}
 use mathlib.Core.Bool.{Bool, not, _&&_}
 use mathlib.Core.List.{List, [], _∷_, _++_}
 use Prim.Native.Nat.{ℕ, zero, suc, _-_, _≤_}
 use lib.Dec.{eqb}
 use lib.ListN.{length, getD, drop}
-use Rattle.blocks.specs.Block.{if_then_else_, same}
+use Rattle.blocks.specs.Block.{if_then_else_, zeros, same}
 use Rattle.incidence.specs.Count.{indicator, anyUpTo}
 use Rattle.incidence.specs.Family.{Family}
+use Rattle.incidence.specs.Sum.{expanded}
 use Rattle.sums.specs.Adding.{sumIn}
 
--- whether row i "agrees": its "sum from the shelf equals its sum from the sheet"
-unfoldable pub agreesIn : List ℕ → List ℕ → ℕ → Bool
-agreesIn a b i = same (sumIn a i) (sumIn b i)
+-- whether row i "agrees": its difference is zero, so that its "sum from the shelf equals its sum from the sheet"
+unfoldable pub agreesIn : List ℕ → ℕ → Bool
+agreesIn d i = same (sumIn d i) (zeros 16)
+
+-- whether row i agrees by the differences of the tags in s: its own is "had back from its tag or, for a row without one, by its pattern"
+unfoldable pub agreesFrom : Family → List ℕ → ℕ → Bool
+agreesFrom F s i = same (expanded F (sumIn s) i) (zeros 16)
 
 -- a byte for each of the items 1 to n, 1 for those that pass: "Writes n bytes, 1 named and 0 cleared"
 unfoldable pub marksOf : (ℕ → Bool) → ℕ → List ℕ

@@ -1,2 +1,2 @@
--- Decoding of two arrays of row sums. Definitions only: the laws about them are in proofs/.
+-- Decoding of an array of differences. Definitions only: the laws about them are in proofs/.
 pub mod Decoding

@@ -1,17 +1,19 @@
-// What a report makes of two arrays of row sums (000, section 3.1: naïve decoding): the rows that agree clear their items, the others
-// are counted, and the items that no row clears are named.
+// What a report makes of an array of differences, the XOR of both sums of each row (000, section 3.1: naïve decoding): the rows that agree
+// clear their items, the others are counted, and the items that no row clears are named.
 use blocks::block;
 use incidence::Answer;
 ghost use mathlib.Core.Path.{_≡_};
-ghost use mathlib.Core.Bool.{_&&_};
+ghost use mathlib.Core.Bool.{true, _&&_};
 ghost use mathlib.Core.List.{_++_};
 ghost use Prim.Native.Nat.{_*_, _≤_};
 ghost use lib.Dec.{eqb, leb};
 ghost use lib.ListN.{length, drop};
 ghost use Rattle.incidence.specs.Count.{countUpTo, anyUpTo};
+ghost use Rattle.blocks.specs.Block.{zeros};
 ghost use Rattle.incidence.specs.Report.{cleared, named, numberNamed, disagreeing, answerBy, answer};
-ghost use Rattle.sizes.specs.Sizes.{familyOf};
-ghost use Rattle.decoding.specs.Decoding.{agreesIn, marksOf, Marked, Cleared, isMarked, holdsMarked, unexplainedIn};
+ghost use Rattle.incidence.specs.declared.Answer.the-variants.{Intact};
+ghost use Rattle.sizes.specs.Sizes.{known, familyOf};
+ghost use Rattle.decoding.specs.Decoding.{agreesIn, agreesFrom, marksOf, Marked, Cleared, isMarked, holdsMarked, unexplainedIn};
 
 // The most marks that a report writes: those of the largest size.
 pub const MARKS_MOST: usize = 273;
@@ -23,14 +25,14 @@ pub struct Decoded {
     pub rows: usize,
 }
 
-// Marks the items 1 to n.
-fn mark_all(marks: &mut [u8], n: usize)
+// Gives the items 1 to n one mark.
+fn mark_all(marks: &mut [u8], n: usize, mark: u8)
     requires { ⌜ n ≤ length (now marks) ⌝ }
-    ensures { λ _. ⌜ Marked n (λ j. 1) (now (marks .entry)) (now (marks .exit)) ⌝ }
+    ensures { λ _. ⌜ Marked n (λ j. mark) (now (marks .entry)) (now (marks .exit)) ⌝ }
 {
     let mut i = 0;
     while i < n {
-        marks[i] = 1;
+        marks[i] = mark;
         i += 1;
     }
 }
@@ -59,28 +61,27 @@ fn clear_row(code: u64, n: usize, row: usize, marks: &mut [u8])
     }
 }
 
-// Whether row i agrees: its sums in a and b are equal.
-fn agree(a: &[u8], b: &[u8], i: usize) -> bool
-    requires { ⌜ (1 ≤ i) × (16 * i ≤ length (now a)) × (16 * i ≤ length (now b)) ⌝ }
-    ensures { λ r. ⌜ r ≡ agreesIn (now (a .entry)) (now (b .entry)) i ⌝ }
+// Whether row i agrees: its difference is zero.
+fn agree(d: &[u8], i: usize) -> bool
+    requires { ⌜ (1 ≤ i) × (16 * i ≤ length (now d)) ⌝ }
+    ensures { λ r. ⌜ r ≡ agreesIn (now (d .entry)) i ⌝ }
 {
-    let at = 16 * (i - 1);
-    block::equal(block::block_at(a, at), block::block_at(b, at))
+    block::is_zero(d, 16 * (i - 1))
 }
 
 // Compares the rows in order: one that agrees clears those of the first n items that it holds, the others are counted.
-fn clear_agreeing(code: u64, n: usize, a: &[u8], b: &[u8], marks: &mut [u8]) -> usize
+fn clear_agreeing(code: u64, n: usize, d: &[u8], marks: &mut [u8]) -> usize
     requires { ⌜ (n ≤ familyOf code .items) × (n ≤ length (now marks)) ⌝ }
-    requires { ⌜ (16 * familyOf code .rows ≤ length (now a)) × (16 * familyOf code .rows ≤ length (now b)) ⌝ }
-    ensures cleared { λ _. ⌜ Cleared (cleared (familyOf code) (agreesIn (now (a .entry)) (now (b .entry))) (familyOf code .rows)) n (now (marks .entry)) (now (marks .exit)) ⌝ }
-    ensures rows { λ r. ⌜ r ≡ disagreeing (agreesIn (now (a .entry)) (now (b .entry))) (familyOf code .rows) ⌝ }
+    requires { ⌜ 16 * familyOf code .rows ≤ length (now d) ⌝ }
+    ensures cleared { λ _. ⌜ Cleared (cleared (familyOf code) (agreesIn (now (d .entry))) (familyOf code .rows)) n (now (marks .entry)) (now (marks .exit)) ⌝ }
+    ensures rows { λ r. ⌜ r ≡ disagreeing (agreesIn (now (d .entry))) (familyOf code .rows) ⌝ }
 {
     let last = sizes::rows(code);
     let mut others = 0;
     let mut i = 0;
     while i < last {
         i += 1;
-        if agree(a, b, i) {
+        if agree(d, i) {
             clear_row(code, n, i, marks);
         } else {
             others += 1;
@@ -131,61 +132,97 @@ fn holds_named(code: u64, n: usize, row: usize, marks: &[u8]) -> bool
 }
 
 // Whether row i disagrees and holds none of the first n items that is marked.
-fn is_unexplained(code: u64, n: usize, a: &[u8], b: &[u8], i: usize, marks: &[u8]) -> bool
+fn is_unexplained(code: u64, n: usize, d: &[u8], i: usize, marks: &[u8]) -> bool
     requires { ⌜ (n ≤ familyOf code .items) × (n ≤ length (now marks)) ⌝ }
-    requires { ⌜ (1 ≤ i) × (16 * i ≤ length (now a)) × (16 * i ≤ length (now b)) ⌝ }
-    ensures { λ r. ⌜ r ≡ unexplainedIn (familyOf code) (agreesIn (now (a .entry)) (now (b .entry))) (now (marks .entry)) n i ⌝ }
+    requires { ⌜ (1 ≤ i) × (16 * i ≤ length (now d)) ⌝ }
+    ensures { λ r. ⌜ r ≡ unexplainedIn (familyOf code) (agreesIn (now (d .entry))) (now (marks .entry)) n i ⌝ }
 {
-    !agree(a, b, i) && !holds_named(code, n, i, marks)
+    !agree(d, i) && !holds_named(code, n, i, marks)
 }
 
 // Whether one of the rows is unexplained.
-fn find_unexplained(code: u64, n: usize, a: &[u8], b: &[u8], marks: &[u8]) -> bool
+fn find_unexplained(code: u64, n: usize, d: &[u8], marks: &[u8]) -> bool
     requires { ⌜ (n ≤ familyOf code .items) × (n ≤ length (now marks)) ⌝ }
-    requires { ⌜ (16 * familyOf code .rows ≤ length (now a)) × (16 * familyOf code .rows ≤ length (now b)) ⌝ }
-    ensures { λ r. ⌜ r ≡ anyUpTo (unexplainedIn (familyOf code) (agreesIn (now (a .entry)) (now (b .entry))) (now (marks .entry)) n) (familyOf code .rows) ⌝ }
+    requires { ⌜ 16 * familyOf code .rows ≤ length (now d) ⌝ }
+    ensures { λ r. ⌜ r ≡ anyUpTo (unexplainedIn (familyOf code) (agreesIn (now (d .entry))) (now (marks .entry)) n) (familyOf code .rows) ⌝ }
 {
     let rows = sizes::rows(code);
     let mut i = 0;
     while i < rows {
         i += 1;
-        if is_unexplained(code, n, a, b, i, marks) {
+        if is_unexplained(code, n, d, i, marks) {
             return true;
         }
     }
     false
 }
 
-// The answer, by the limit, the number of rows that disagree, the number of items named, and whether a row is unexplained.
-fn choose(limit: usize, rows: usize, names: usize, unexplained: bool) -> Answer
-    ensures { λ r. ⌜ r ≡ answerBy limit rows names unexplained ⌝ }
+// The answer, by the numbers of rows that disagree and of items named. An unexplained row is looked for only where 1 to limit items are
+// named: elsewhere the answer does not depend on it.
+fn choose(code: u64, n: usize, d: &[u8], marks: &[u8], rows: usize, names: usize) -> Answer
+    requires { ⌜ (n ≤ familyOf code .items) × (n ≤ length (now marks)) ⌝ }
+    requires { ⌜ 16 * familyOf code .rows ≤ length (now d) ⌝ }
+    ensures { λ r. ⌜ r ≡ answerBy (familyOf code .limit) rows names (anyUpTo (unexplainedIn (familyOf code) (agreesIn (now (d .entry))) (now (marks .entry)) n) (familyOf code .rows)) ⌝ }
 {
     if rows == 0 {
         return Answer::Intact;
     }
-    if 1 <= names && names <= limit && !unexplained {
+    if 1 <= names && names <= sizes::limit(code) && !find_unexplained(code, n, d, marks) {
         return Answer::Named;
     }
     Answer::Beyond
 }
 
-// Decodes n items from two arrays of row sums: writes their marks, 1 named and 0 cleared, to the front of marks; what is behind them
+// Decodes n items from an array of differences: writes their marks, 1 named and 0 cleared, to the front of marks; what is behind them
 // stays.
-pub fn decode(code: u64, n: usize, a: &[u8], b: &[u8], marks: &mut [u8]) -> Decoded
+fn decode(code: u64, n: usize, d: &[u8], marks: &mut [u8]) -> Decoded
     requires { ⌜ (n ≤ familyOf code .items) × (n ≤ length (now marks)) ⌝ }
-    requires { ⌜ (16 * familyOf code .rows ≤ length (now a)) × (16 * familyOf code .rows ≤ length (now b)) ⌝ }
-    ensures written { λ _. ⌜ now (marks .exit) ≡ marksOf (named (familyOf code) (agreesIn (now (a .entry)) (now (b .entry)))) n ++ drop n (now (marks .entry)) ⌝ }
-    ensures answer { λ r. ⌜ r .answer ≡ answer (familyOf code) (agreesIn (now (a .entry)) (now (b .entry))) n ⌝ }
-    ensures named { λ r. ⌜ r .named ≡ numberNamed (familyOf code) (agreesIn (now (a .entry)) (now (b .entry))) n ⌝ }
-    ensures rows { λ r. ⌜ r .rows ≡ disagreeing (agreesIn (now (a .entry)) (now (b .entry))) (familyOf code .rows) ⌝ }
+    requires { ⌜ 16 * familyOf code .rows ≤ length (now d) ⌝ }
+    ensures written { λ _. ⌜ now (marks .exit) ≡ marksOf (named (familyOf code) (agreesIn (now (d .entry)))) n ++ drop n (now (marks .entry)) ⌝ }
+    ensures answer { λ r. ⌜ r .answer ≡ answer (familyOf code) (agreesIn (now (d .entry))) n ⌝ }
+    ensures named { λ r. ⌜ r .named ≡ numberNamed (familyOf code) (agreesIn (now (d .entry))) n ⌝ }
+    ensures rows { λ r. ⌜ r .rows ≡ disagreeing (agreesIn (now (d .entry))) (familyOf code .rows) ⌝ }
 {
-    mark_all(marks, n);
-    let rows = clear_agreeing(code, n, a, b, marks);
+    mark_all(marks, n, 1);
+    let rows = clear_agreeing(code, n, d, marks);
     let names = count_named(marks, n);
-    let unexplained = find_unexplained(code, n, a, b, marks);
     Decoded {
-        answer: choose(sizes::limit(code), rows, names, unexplained),
+        answer: choose(code, n, d, marks, rows, names),
         named: names,
         rows: rows,
     }
+}
+
+// What is decoded of n items where every row agrees: all are cleared.
+fn intact(n: usize, marks: &mut [u8]) -> Decoded
+    requires { ⌜ n ≤ length (now marks) ⌝ }
+    ensures written { λ _. ⌜ now (marks .exit) ≡ zeros n ++ drop n (now (marks .entry)) ⌝ }
+    ensures answer { λ r. ⌜ r .answer ≡ Intact ⌝ }
+    ensures named { λ r. ⌜ r .named ≡ 0 ⌝ }
+    ensures rows { λ r. ⌜ r .rows ≡ 0 ⌝ }
+{
+    mark_all(marks, n, 0);
+    Decoded {
+        answer: Answer::Intact,
+        named: 0,
+        rows: 0,
+    }
+}
+
+// Decodes n items from the differences of the tags, which stand at the front of sums: where all are zero every row agrees, and none is made;
+// else those of all rows are filled in there and decoded. What sums then hold is of no account.
+pub fn decode_tags(code: u64, n: usize, sums: &mut [u8], marks: &mut [u8]) -> Decoded
+    requires { ⌜ known code ≡ true ⌝ }
+    requires { ⌜ (n ≤ familyOf code .items) × (n ≤ length (now marks)) ⌝ }
+    requires { ⌜ 16 * familyOf code .rows ≤ length (now sums) ⌝ }
+    ensures written { λ _. ⌜ now (marks .exit) ≡ marksOf (named (familyOf code) (agreesFrom (familyOf code) (now (sums .entry)))) n ++ drop n (now (marks .entry)) ⌝ }
+    ensures answer { λ r. ⌜ r .answer ≡ answer (familyOf code) (agreesFrom (familyOf code) (now (sums .entry))) n ⌝ }
+    ensures named { λ r. ⌜ r .named ≡ numberNamed (familyOf code) (agreesFrom (familyOf code) (now (sums .entry))) n ⌝ }
+    ensures rows { λ r. ⌜ r .rows ≡ disagreeing (agreesFrom (familyOf code) (now (sums .entry))) (familyOf code .rows) ⌝ }
+{
+    if block::all_zero(sums, sizes::tags(code)) {
+        return intact(n, marks);
+    }
+    sums::fill_rows(code, sums);
+    decode(code, n, sums, marks)
 }

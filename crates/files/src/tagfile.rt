@@ -5,6 +5,7 @@ use crate::message::number16;
 use crate::refusals::unless;
 use blocks::block;
 use cipher::cmac;
+use cipher::engine::Tables;
 use stamp::Stamp;
 ghost use mathlib.Core.Path.{_≡_};
 ghost use Prim.Native.Nat.{_+_, _≤_, _<_};
@@ -14,6 +15,7 @@ ghost use lib.Dec.{eqb};
 ghost use lib.ListN.{length, take, drop};
 ghost use Rattle.blocks.specs.Number.{bigEndian};
 ghost use Rattle.cipher.specs.Cmac.{cmac};
+ghost use Rattle.cipher.specs.Engine.{EngineTables};
 ghost use Rattle.stamp.specs.Front.{versionOf};
 ghost use Rattle.files.specs.Message.{refuse8};
 ghost use Rattle.files.specs.TagFile.{stampFor, header, tagsAt, fileSize, codeOf, countOf, headOf, tagsIn, countFits, refuse6, refuse20};
@@ -148,12 +150,13 @@ pub fn check_room(s: &[u8], room: usize) -> Refusal
 }
 
 // Refusal 20, or none: whether its MAC is right.
-pub fn check_mac(key: [u8; 16], s: &[u8]) -> Refusal
+pub fn check_mac(t: &Tables, key: [u8; 16], s: &[u8]) -> Refusal
+    requires { ⌜ EngineTables (now t) ⌝ }
     requires { ⌜ refuse6 (now s) .number ≡ 0 ⌝ }
     ensures { λ r. ⌜ r ≡ refuse20 key (now (s .entry)) ⌝ }
 {
     let end = s.len() - 16;
-    let mac = cmac::cmac(key, &s[0..end]);
+    let mac = cmac::cmac_with(t, key, &s[0..end]);
     unless(block::equal(block::block_at(s, end), mac), 20, 0)
 }
 
@@ -184,10 +187,11 @@ pub fn put_header(out: &mut [u8], head: Head)
 }
 
 // Seals the first n bytes of out: writes their MAC behind them, through the part that starts there; what is behind it stays.
-pub fn seal(key: [u8; 16], out: &mut [u8], n: usize)
+pub fn seal(t: &Tables, key: [u8; 16], out: &mut [u8], n: usize)
+    requires { ⌜ EngineTables (now t) ⌝ }
     requires { ⌜ n + 16 ≤ length (now out) ⌝ }
     ensures { λ _. ⌜ now (out .exit) ≡ take n (now (out .entry)) ++ (cmac key (take n (now (out .entry))) ++ drop (n + 16) (now (out .entry))) ⌝ }
 {
-    let mac = cmac::cmac(key, &out[0..n]);
+    let mac = cmac::cmac_with(t, key, &out[0..n]);
     block::put(&mut out[n..], mac);
 }

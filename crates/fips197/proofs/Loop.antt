@@ -1,6 +1,6 @@
 -- One law for every loop that writes an array from the front: where it is to become t, after i turns the array l is `part i t l`.
 -- A loop's invariant is that equation; a turn is `part-turn`, what is not yet written is `part-read`, and the end is `part-done`.
-use Rattle.fips197.proofs.Kit.{_≡_, refl, sym, ap, _∙_, List, [], _∷_, _++_, ℕ, zero, suc, _+_, _≤_, _<_, zero-le, not-suc-le-zero, le-of-suc-le-suc, add-one, length, getD, set, take, drop, drop-of-length-le, drop-nil, arith}
+use Rattle.fips197.proofs.Kit.{_≡_, refl, sym, ap, _∙_, List, [], _∷_, _++_, append-assoc, ℕ, zero, suc, _+_, _≤_, _<_, zero-le, not-suc-le-zero, le-of-suc-le-suc, add-one, length, getD, set, take, drop, length-append, length-take, length-drop, take-at, take-append-drop, drop-of-length-le, drop-nil, getD-append-add, List·getD-append, arith}
 
 abbrev pub part : ℕ → List ℕ → List ℕ → List ℕ
 part i t l = take i t ++ drop i l
@@ -41,3 +41,32 @@ part-read i t l s p k = ap (λ (z : List ℕ). getD z i 0) p ∙ part-at i t l k
 
 pub part-done : (n : ℕ) (i : ℕ) (t l s : List ℕ) → s ≡ part i t l → n ≤ i → length t ≡ n → length l ≡ n → s ≡ t
 part-done n i t l s p h e k = p ∙ part-all i t l (omega arith) (omega arith)
+
+-- ---- a loop that writes b at a place of w, from where it stands on
+
+module _ (w b : List ℕ) (at n : ℕ) (room : at + n ≤ length w) (long : length b ≡ n) where
+  abbrev pub placed : List ℕ
+  placed = take at w ++ (b ++ drop (at + n) w)
+
+  front-long : length (take at w) ≡ at
+  front-long = simp length-take (omega arith)
+
+  pub placed-long : length placed ≡ length w
+  placed-long = length-append (take at w) (b ++ drop (at + n) w) ∙ simp (length-append, length-take, length-drop) (omega arith)
+
+  pub place-first : w ≡ part at placed w
+  place-first = sym (take-append-drop at w) ∙ ap (λ (l : List ℕ). l ++ drop at w) (sym (take-at (take at w) (b ++ drop (at + n) w) at front-long))
+
+  pub place-turn : (i : ℕ) (s : List ℕ) (v : ℕ) → i < n → s ≡ part (at + i) placed w → v ≡ getD b i 0 → set s (at + i) v ≡ part (at + (i + 1)) placed w
+  place-turn i s v h p e =
+      let z : at + i + 1 ≡ at + (i + 1) = omega arith in
+      part-turn (at + i) placed w s v p (omega arith) (omega (arith, placed-long))
+      (e ∙ sym (ap (λ (k : ℕ). getD placed (k + i) 0) (sym front-long) ∙ getD-append-add (take at w) (b ++ drop (at + n) w) i 0 ∙ List·getD-append b (drop (at + n) w) 0 i (omega arith)))
+      ∙ ap (λ (k : ℕ). part k placed w) z
+
+  pub place-done : (i : ℕ) (s : List ℕ) → i ≡ n → s ≡ part (at + i) placed w → s ≡ placed
+  place-done i s e p =
+      let z : length (take at w ++ b) ≡ at + n = length-append (take at w) b ∙ omega (arith, front-long) in
+      p ∙ ap (λ (k : ℕ). part (at + k) placed w) e
+      ∙ ap (λ (l : List ℕ). l ++ drop (at + n) w) (ap (take (at + n)) (sym (append-assoc (take at w) b (drop (at + n) w))) ∙ take-at (take at w ++ b) (drop (at + n) w) (at + n) z)
+      ∙ append-assoc (take at w) b (drop (at + n) w)

@@ -1,12 +1,13 @@
 -- The key schedule: its length, its bytes and its round keys, and what the code's loop keeps of it.
-use Rattle.fips197.proofs.Kit.{_≡_, refl, sym, ap, ap₂, _∙_, Bool, true, false, List, [], _∷_, _++_, map, ℕ, zero, suc, _+_, _-_, _*_, _/_, _%_, _≤_, _<_, zero-lt-suc, add-zero, arith, eqb, length, getD, set, take, drop, length-append, length-take, length-drop, take-append-drop, take-append-le, drop-append-le, take-at, take-all, take-add, drop-drop, getD-take, getD-drop, sets-eq, bitXor, xor-zero-r, eq-eqb, ne-eqb}
+use Rattle.fips197.proofs.Kit.{_≡_, refl, sym, ap, ap₂, _∙_, Bool, true, false, List, [], _∷_, _++_, map, ℕ, zero, suc, _+_, _-_, _*_, _/_, _%_, _≤_, _<_, zero-lt-suc, add-zero, arith, eqb, length, getD, set, take, drop, length-append, length-take, length-drop, take-append-drop, take-append-le, drop-append-le, take-at, take-all, drop-at, drop-drop, drop-append-add, append-assoc, add-one, eq-eqb, ne-eqb}
 use Rattle.fips197.specs.Block.{if_then_else_, Bytes, Block, _⊕_}
 use Rattle.fips197.specs.Field.{power, powerBy, _•_}
 use Rattle.fips197.specs.Aes.{sbox, word, rotWord, subWord, rcon, temp, expanded, keyExpansion, roundKey}
+use Rattle.fips197.specs.Words.{bytesOf, stateOf}
 use Rattle.fips197.proofs.Xor.{⊕-length, ⊕-bytes, byte-at, append-bytes, take-bytes, drop-bytes, map-bytes}
 use Rattle.fips197.proofs.TableRules.{sbox-lt}
 use Rattle.fips197.proofs.Mixing.{product-lt}
-use Rattle.fips197.proofs.States.{elements-of}
+use Rattle.fips197.proofs.States.{elements-of, bytes-at, words-at}
 
 -- ---- words
 
@@ -97,106 +98,132 @@ roundKey-block key h n l =
 pub word-is : (w : List ℕ) (i : ℕ) → 4 * i + 4 ≤ length w
     → word w i ≡ getD w (4 * i) 0 ∷ getD w (4 * i + 1) 0 ∷ getD w (4 * i + 2) 0 ∷ getD w (4 * i + 3) 0 ∷ []
 unfolding word
-word-is w i h =
-    sym (elements-of 4 (word w i) (word-length w i h))
-    ∙ (λ j. at 0 (omega arith) j ∷ at 1 (omega arith) j ∷ at 2 (omega arith) j ∷ at 3 (omega arith) j ∷ [])
-    ∙ ap (λ (k : ℕ). getD w k 0 ∷ getD w (4 * i + 1) 0 ∷ getD w (4 * i + 2) 0 ∷ getD w (4 * i + 3) 0 ∷ []) (add-zero (4 * i))
-  where
-    at : (k : ℕ) → k < 4 → getD (take 4 (drop (4 * i) w)) k 0 ≡ getD w (4 * i + k) 0
-    at k l = getD-take 4 (drop (4 * i) w) k 0 l ∙ getD-drop (4 * i) w k 0
+word-is w i h = bytes-at w (4 * i) h
 
--- the words before a place are those of the front
-word-take : (w : List ℕ) (n i : ℕ) → n ≤ length w → 4 * i + 4 ≤ n → word (take n w) i ≡ word w i
-word-take w n i l h =
-    sym (word-front (take n w) (drop n w) i (simp length-take (omega arith))) ∙ ap (λ (z : List ℕ). word z i) (take-append-drop n w)
+-- a word behind the front
+word-behind : (a b : List ℕ) (i k : ℕ) → 4 * i ≡ length a + k → word (a ++ b) i ≡ take 4 (drop k b)
+unfolding word
+word-behind a b i k e = ap (λ (n : ℕ). take 4 (drop n (a ++ b))) e ∙ ap (take 4) (drop-append-add a b k)
 
-temp-take : (w : List ℕ) (i : ℕ) → 4 ≤ i → 4 * i ≤ length w → temp i (take (4 * i) w) ≡ temp i w
+-- the first word of a round key, and the others
+temp-first : (i : ℕ) (w : List ℕ) → i % 4 ≡ 0 → temp i w ≡ subWord (rotWord (word w (i - 1))) ⊕ rcon (i / 4)
 unfolding temp
-temp-take w i l h =
-    ap (λ (a : List ℕ). if eqb (i % 4) 0 then subWord (rotWord a) ⊕ rcon (i / 4) else a) (word-take w (4 * i) (i - 1) h (omega arith))
+temp-first i w e = ap (λ (t : Bool). if t then subWord (rotWord (word w (i - 1))) ⊕ rcon (i / 4) else word w (i - 1)) (eq-eqb (i % 4) 0 e)
 
--- what goes into word i is a word
-new-length : (w : List ℕ) (i : ℕ) → 4 ≤ i → 4 * i ≤ length w → length (word w (i - 4) ⊕ temp i w) ≡ 4
-new-length w i l h =
-    let a : length (word w (i - 4)) ≡ 4 = word-length w (i - 4) (omega arith) in
-    let b : length (temp i w) ≡ 4 = temp-length i w l h in
-    ⊕-length _ _ (omega arith) ∙ a
+temp-other : (i : ℕ) (w : List ℕ) → (i % 4 ≡ 0 → ⊥) → temp i w ≡ word w (i - 1)
+unfolding temp
+temp-other i w e = ap (λ (t : Bool). if t then subWord (rotWord (word w (i - 1))) ⊕ rcon (i / 4) else word w (i - 1)) (ne-eqb (i % 4) 0 e)
 
-pub put-length : (w : List ℕ) (i : ℕ) → 4 ≤ i → 4 * i + 4 ≤ length w
-    → length (take (4 * i) w ++ (word w (i - 4) ⊕ temp i w) ++ drop (4 * i + 4) w) ≡ length w
-put-length w i l h =
-    let c : length (word w (i - 4) ⊕ temp i w) ≡ 4 = new-length w i l (omega arith) in
-    simp (length-append, length-take, length-drop) (omega arith)
-
--- one more word is written
-pub schedule-more : (key w : List ℕ) (i : ℕ) → 4 ≤ i → 4 * i + 4 ≤ length w → take (4 * i) w ≡ expanded key (i - 4)
-    → take (4 * (i + 1)) (take (4 * i) w ++ (word w (i - 4) ⊕ temp i w) ++ drop (4 * i + 4) w) ≡ expanded key (i + 1 - 4)
+-- one word more
+word-more : (key w u v : List ℕ) (m k : ℕ) → k ≡ m + 1 → expanded key m ≡ w → word w m ≡ u → temp (m + 4) w ≡ v → expanded key k ≡ w ++ (u ⊕ v)
 unfolding expanded
-schedule-more key w i l h e =
-    let v = word w (i - 4) ⊕ temp i w in
-    let c : length v ≡ 4 = new-length w i l (omega arith) in
-    let m : i + 1 - 4 ≡ suc (i - 4) = omega arith in
-    let n : i - 4 + 4 ≡ i = omega arith in
-    take-at (take (4 * i) w ++ v) (drop (4 * i + 4) w) (4 * (i + 1)) (length-append (take (4 * i) w) v ∙ simp length-take (omega arith))
-    ∙ ap₂ (λ (x y : List ℕ). take (4 * i) w ++ (x ⊕ y)) (sym (word-take w (4 * i) (i - 4) (omega arith) (omega arith))) (sym (temp-take w i l (omega arith)))
-    ∙ ap (λ (x : List ℕ). x ++ (word x (i - 4) ⊕ temp i x)) e
-    ∙ ap (λ (j : ℕ). expanded key (i - 4) ++ (word (expanded key (i - 4)) (i - 4) ⊕ temp j (expanded key (i - 4)))) (sym n)
-    ∙ ap (expanded key) (sym m)
+word-more key w u v m k ek e eu ev =
+    ap (expanded key) (ek ∙ add-one m) ∙ ap (λ (x : List ℕ). x ++ (word x m ⊕ temp (m + 4) x)) e ∙ ap₂ (λ (x y : List ℕ). w ++ (x ⊕ y)) eu ev
 
-pub schedule-done : (key w : List ℕ) (i : ℕ) → i ≡ 44 → length w ≡ 176 → take (4 * i) w ≡ expanded key (i - 4) → w ≡ keyExpansion key
-unfolding keyExpansion
-schedule-done key w i p h e =
-    let a : length w ≤ 4 * i = omega arith in
-    sym (take-all (4 * i) w a) ∙ e ∙ ap (λ (j : ℕ). expanded key (j - 4)) p
+-- four words more: round key n + 1 from round key n, whose words are a to d
+module _ (key w : List ℕ) (n : ℕ) (so : expanded key (4 * n) ≡ w) (long : length w ≡ 16 * n + 16) (a b c d p q r s : ℕ)
+    (last : drop (16 * n) w ≡ stateOf a b c d) (ep : bytesOf p ≡ bytesOf a ⊕ (subWord (rotWord (bytesOf d)) ⊕ rcon (n + 1)))
+    (eq : bytesOf q ≡ bytesOf b ⊕ bytesOf p) (er : bytesOf r ≡ bytesOf c ⊕ bytesOf q) (es : bytesOf s ≡ bytesOf d ⊕ bytesOf r) where
+  pick : (i k : ℕ) → 4 * i ≡ 16 * n + k → word w i ≡ take 4 (drop k (stateOf a b c d))
+  unfolding word
+  pick i k e = ap (λ (j : ℕ). take 4 (drop j w)) e ∙ ap (take 4) (sym (drop-drop k (16 * n) w)) ∙ ap (λ (l : List ℕ). take 4 (drop k l)) last
 
--- a word that is not the first of a round key is XORed with the word before it
-pub temp-plain : (w : List ℕ) (i : ℕ) → 4 ≤ i → 4 * i ≤ length w → (i % 4 ≡ 0 → ⊥)
-    → _≡_ {A = List ℕ} (getD w (4 * (i - 1)) 0 ∷ getD w (4 * (i - 1) + 1) 0 ∷ getD w (4 * (i - 1) + 2) 0 ∷ getD w (4 * (i - 1) + 3) 0 ∷ []) (temp i w)
-unfolding temp
-temp-plain w i l h e =
-    sym (word-is w (i - 1) (omega arith))
-    ∙ ap (λ (t : Bool). if t then subWord (rotWord (word w (i - 1))) ⊕ rcon (i / 4) else word w (i - 1)) (sym (ne-eqb (i % 4) 0 e))
+  longer : (l : List ℕ) (x : ℕ) → length (l ++ bytesOf x) ≡ length l + 4
+  unfolding bytesOf
+  longer l x = length-append l (bytesOf x)
 
--- the first is XORed with it turned, substituted and with the round constant
-pub temp-first : (w : List ℕ) (i x y z u v : ℕ) → 4 ≤ i → 4 * i ≤ length w → i % 4 ≡ 0
-    → x ≡ sbox (getD w (4 * (i - 1) + 1) 0) → y ≡ sbox (getD w (4 * (i - 1) + 2) 0) → z ≡ sbox (getD w (4 * (i - 1) + 3) 0)
-    → u ≡ sbox (getD w (4 * (i - 1)) 0) → v ≡ power 2 (i / 4 - 1)
-    → _≡_ {A = List ℕ} (bitXor x v ∷ y ∷ z ∷ u ∷ []) (temp i w)
-unfolding temp subWord rotWord rcon _⊕_
-temp-first w i x y z u v l h e px py pz pu pv =
-    (λ j. bitXor (px j) (pv j) ∷ (py ∙ sym (xor-zero-r _)) j ∷ (pz ∙ sym (xor-zero-r _)) j ∷ (pu ∙ sym (xor-zero-r _)) j ∷ [])
-    ∙ ap (λ (a : List ℕ). subWord (rotWord a) ⊕ rcon (i / 4)) (sym (word-is w (i - 1) (omega arith)))
-    ∙ ap (λ (t : Bool). if t then subWord (rotWord (word w (i - 1))) ⊕ rcon (i / 4) else word w (i - 1)) (sym (eq-eqb (i % 4) 0 e))
+  one : expanded key (4 * n + 1) ≡ w ++ bytesOf p
+  unfolding stateOf bytesOf
+  one =
+      let e : (4 * n + 4) / 4 ≡ n + 1 = omega arith in
+      word-more key w _ _ (4 * n) (4 * n + 1) refl so (pick (4 * n) 0 (omega arith))
+      (temp-first (4 * n + 4) w (omega arith) ∙ ap₂ (λ (l : List ℕ) (j : ℕ). subWord (rotWord l) ⊕ rcon j) (pick (4 * n + 4 - 1) 12 (omega arith)) e)
+      ∙ ap (λ (l : List ℕ). w ++ l) (sym ep)
 
--- four stores write a word
-pub put-word : (w v : List ℕ) (i a b c d : ℕ) → 4 ≤ i → 4 * i + 4 ≤ length w → v ≡ temp i w
-    → a ≡ bitXor (getD w (4 * (i - 4)) 0) (getD v 0 0) → b ≡ bitXor (getD w (4 * (i - 4) + 1) 0) (getD v 1 0)
-    → c ≡ bitXor (getD w (4 * (i - 4) + 2) 0) (getD v 2 0) → d ≡ bitXor (getD w (4 * (i - 4) + 3) 0) (getD v 3 0)
-    → set (set (set (set w (4 * i) a) (4 * i + 1) b) (4 * i + 2) c) (4 * i + 3) d
-    ≡ take (4 * i) w ++ (word w (i - 4) ⊕ temp i w) ++ drop (4 * i + 4) w
-unfolding _⊕_
-put-word w v i a b c d l h e pa pb pc pd =
-    let n : length (temp i w) ≡ 4 = temp-length i w l (omega arith) in
-    let m : length v ≡ 4 = ap length e ∙ n in
-    let p1 : 4 * i + 1 ≡ suc (4 * i) = omega arith in
-    let p2 : 4 * i + 2 ≡ suc (suc (4 * i)) = omega arith in
-    let p3 : 4 * i + 3 ≡ suc (suc (suc (4 * i))) = omega arith in
-    (λ j. set (set (set (set w (4 * i) a) (p1 j) b) (p2 j) c) (p3 j) d)
-    ∙ sets-eq (a ∷ b ∷ c ∷ d ∷ []) w (4 * i) h
-    ∙ ap (λ (z : List ℕ). take (4 * i) w ++ z ++ drop (4 * i + 4) w)
-    ((λ j. pa j ∷ pb j ∷ pc j ∷ pd j ∷ [])
-    ∙ ap₂ (λ (x y : List ℕ). x ⊕ y) (sym (word-is w (i - 4) (omega arith))) (elements-of 4 v m ∙ e))
+  two : expanded key (4 * n + 2) ≡ w ++ bytesOf p ++ bytesOf q
+  unfolding stateOf bytesOf
+  two =
+      word-more key (w ++ bytesOf p) _ _ (4 * n + 1) (4 * n + 2) (omega arith) one
+      (word-front w (bytesOf p) (4 * n + 1) (omega arith) ∙ pick (4 * n + 1) 4 (omega arith))
+      (temp-other (4 * n + 1 + 4) (w ++ bytesOf p) (λ e. omega arith) ∙ word-behind w (bytesOf p) (4 * n + 1 + 4 - 1) 0 (omega arith))
+      ∙ ap (λ (l : List ℕ). w ++ bytesOf p ++ l) (sym eq)
+
+  three : expanded key (4 * n + 3) ≡ w ++ bytesOf p ++ bytesOf q ++ bytesOf r
+  unfolding stateOf bytesOf
+  three =
+      let l = longer w p in
+      word-more key (w ++ bytesOf p ++ bytesOf q) _ _ (4 * n + 2) (4 * n + 3) (omega arith) two
+      (word-front (w ++ bytesOf p) (bytesOf q) (4 * n + 2) (omega arith) ∙ word-front w (bytesOf p) (4 * n + 2) (omega arith) ∙ pick (4 * n + 2) 8 (omega arith))
+      (temp-other (4 * n + 2 + 4) (w ++ bytesOf p ++ bytesOf q) (λ e. omega arith) ∙ word-behind (w ++ bytesOf p) (bytesOf q) (4 * n + 2 + 4 - 1) 0 (omega arith))
+      ∙ ap (λ (l : List ℕ). w ++ bytesOf p ++ bytesOf q ++ l) (sym er)
+
+  four : expanded key (4 * n + 4) ≡ w ++ bytesOf p ++ bytesOf q ++ bytesOf r ++ bytesOf s
+  unfolding stateOf bytesOf
+  four =
+      let l = longer w p in
+      let m = longer (w ++ bytesOf p) q in
+      word-more key (w ++ bytesOf p ++ bytesOf q ++ bytesOf r) _ _ (4 * n + 3) (4 * n + 4) (omega arith) three
+      (word-front (w ++ bytesOf p ++ bytesOf q) (bytesOf r) (4 * n + 3) (omega arith) ∙ word-front (w ++ bytesOf p) (bytesOf q) (4 * n + 3) (omega arith)
+      ∙ word-front w (bytesOf p) (4 * n + 3) (omega arith) ∙ pick (4 * n + 3) 12 (omega arith))
+      (temp-other (4 * n + 3 + 4) (w ++ bytesOf p ++ bytesOf q ++ bytesOf r) (λ e. omega arith)
+      ∙ word-behind (w ++ bytesOf p ++ bytesOf q) (bytesOf r) (4 * n + 3 + 4 - 1) 0 (omega arith))
+      ∙ ap (λ (l : List ℕ). w ++ bytesOf p ++ bytesOf q ++ bytesOf r ++ l) (sym es)
+
+  round-more : expanded key (4 * (n + 1)) ≡ w ++ stateOf p q r s
+  unfolding stateOf
+  round-more =
+      let e : 4 * (n + 1) ≡ 4 * n + 4 = omega arith in
+      ap (expanded key) e ∙ four
+      ∙ append-assoc (w ++ bytesOf p ++ bytesOf q) (bytesOf r) (bytesOf s)
+      ∙ append-assoc (w ++ bytesOf p) (bytesOf q) (bytesOf r ++ bytesOf s)
+      ∙ append-assoc w (bytesOf p) (bytesOf q ++ (bytesOf r ++ bytesOf s))
+      ∙ ap (λ (l : List ℕ). w ++ l) (sym (append-assoc (bytesOf p) (bytesOf q) (bytesOf r ++ bytesOf s)) ∙ sym (append-assoc (bytesOf p ++ bytesOf q) (bytesOf r) (bytesOf s)))
+
+-- round keys 0 to n stand in w, and the last of them is k
+pub record Written (key w : List ℕ) (n a b c d : ℕ) : Type 0 where
+  pub front : take (16 * n + 16) w ≡ expanded key (4 * n)
+  pub last : drop (16 * n) (expanded key (4 * n)) ≡ stateOf a b c d
+
+pub state-length : (a b c d : ℕ) → length (stateOf a b c d) ≡ 16
+unfolding stateOf bytesOf
+state-length a b c d = refl
+
+module _ (key : List ℕ) (hk : length key ≡ 16) where
+  pub written-first : (w w′ : List ℕ) (a b c d : ℕ) → stateOf a b c d ≡ key → w′ ≡ take (16 * 0) w ++ (stateOf a b c d ++ drop (16 * 0 + 16) w) → Written key w′ 0 a b c d
+  unfolding expanded
+  written-first w w′ a b c d e p = record {
+    front = ap (take 16) p ∙ take-at (stateOf a b c d) (drop 16 w) 16 (ap length e ∙ hk) ∙ e;
+    last = sym e;
+  }
+
+  pub written-next : (w w′ : List ℕ) (n a b c d p q r s : ℕ) → length w ≡ 176 → n < 10 → Written key w n a b c d
+      → bytesOf p ≡ bytesOf a ⊕ (subWord (rotWord (bytesOf d)) ⊕ rcon (n + 1)) → bytesOf q ≡ bytesOf b ⊕ bytesOf p → bytesOf r ≡ bytesOf c ⊕ bytesOf q
+      → bytesOf s ≡ bytesOf d ⊕ bytesOf r → w′ ≡ take (16 * (n + 1)) w ++ (stateOf p q r s ++ drop (16 * (n + 1) + 16) w) → Written key w′ (n + 1) p q r s
+  written-next w w′ n a b c d p q r s h l W ep eq er es e =
+      let v = expanded key (4 * n) in
+      let lv : length v ≡ 16 * n + 16 = expanded-length key hk (4 * n) ∙ omega arith in
+      let more : expanded key (4 * (n + 1)) ≡ v ++ stateOf p q r s = round-more key v n refl lv a b c d p q r s (W .last) ep eq er es in
+      let f : 16 * (n + 1) ≡ 16 * n + 16 = omega arith in
+      let g : take (16 * (n + 1)) w ≡ v = ap (λ (k : ℕ). take k w) f ∙ W .front in
+      let z : length (v ++ stateOf p q r s) ≡ 16 * (n + 1) + 16 = length-append v (stateOf p q r s) ∙ ap (λ (k : ℕ). length v + k) (state-length p q r s) ∙ omega arith in
+      record {
+        front = ap (take (16 * (n + 1) + 16)) (e ∙ sym (append-assoc (take (16 * (n + 1)) w) (stateOf p q r s) _) ∙ ap (λ (l : List ℕ). l ++ stateOf p q r s ++ drop (16 * (n + 1) + 16) w) g)
+            ∙ take-at (v ++ stateOf p q r s) (drop (16 * (n + 1) + 16) w) (16 * (n + 1) + 16) z ∙ sym more;
+        last = ap (drop (16 * (n + 1))) more ∙ drop-at v (stateOf p q r s) (16 * (n + 1)) (omega arith);
+      }
+
+  pub written-all : (w : List ℕ) (n a b c d : ℕ) → n ≡ 10 → length w ≡ 176 → Written key w n a b c d → w ≡ keyExpansion key
+  unfolding keyExpansion
+  written-all w n a b c d e h W =
+      sym (take-all (16 * n + 16) w (omega arith)) ∙ W .front ∙ ap (λ (k : ℕ). expanded key (4 * k)) e
 
 -- a round key is four words
 pub roundKey-words : (w : List ℕ) (n : ℕ) → roundKey w n ≡ word w (4 * n) ++ word w (4 * n + 1) ++ word w (4 * n + 2) ++ word w (4 * n + 3)
 unfolding roundKey word
 roundKey-words w n =
-    let z = drop (16 * n) w in
     let e0 : 16 * n ≡ 4 * (4 * n) = omega arith in
     let e1 : 16 * n + 4 ≡ 4 * (4 * n + 1) = omega arith in
     let e2 : 16 * n + 8 ≡ 4 * (4 * n + 2) = omega arith in
     let e3 : 16 * n + 12 ≡ 4 * (4 * n + 3) = omega arith in
-    take-add 12 4 z
-    ∙ ap (λ (t : List ℕ). t ++ take 4 (drop 12 z)) (take-add 8 4 z ∙ ap (λ (t : List ℕ). t ++ take 4 (drop 8 z)) (take-add 4 4 z))
-    ∙ (λ i. take 4 (drop (e0 i) w) ++ take 4 ((drop-drop 4 (16 * n) w ∙ ap (λ (k : ℕ). drop k w) e1) i)
-    ++ take 4 ((drop-drop 8 (16 * n) w ∙ ap (λ (k : ℕ). drop k w) e2) i) ++ take 4 ((drop-drop 12 (16 * n) w ∙ ap (λ (k : ℕ). drop k w) e3) i))
+    words-at w (16 * n)
+    ∙ (λ i. take 4 (drop (e0 i) w) ++ take 4 (drop (e1 i) w) ++ take 4 (drop (e2 i) w) ++ take 4 (drop (e3 i) w))

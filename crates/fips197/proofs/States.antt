@@ -1,5 +1,5 @@
 -- The steps of a round take blocks to blocks, and each undoes its inverse, both ways.
-use Rattle.fips197.proofs.Kit.{_≡_, refl, sym, ap, ap₂, _∙_, List, [], _∷_, map, ℕ, zero, suc, _+_, _-_, _*_, _/_, _%_, _<_, length, getD, length-map}
+use Rattle.fips197.proofs.Kit.{_≡_, refl, sym, ap, ap₂, _∙_, List, [], _∷_, _++_, map, ℕ, zero, suc, _+_, _-_, _*_, _/_, _%_, _≤_, _<_, add-zero, arith, length, getD, take, drop, length-map, length-take, length-drop, take-add, drop-drop, getD-take, getD-drop}
 use Rattle.fips197.specs.Block.{Bytes, Block, tabulate}
 use Rattle.fips197.specs.Aes.{cell, state, sbox, invSbox, subBytes, invSubBytes, shiftRows, invShiftRows, columnwise, mixed, invMixed, mixColumns, invMixColumns}
 use Rattle.fips197.proofs.Xor.{byte-at, map-bytes}
@@ -19,6 +19,25 @@ elements (x ∷ xs) = ap (λ (t : List ℕ). x ∷ t) (elements xs)
 
 pub elements-of : (n : ℕ) (s : List ℕ) → length s ≡ n → tabulate n (λ i. getD s i 0) ≡ s
 elements-of n s h = ap (λ (n : ℕ). tabulate n (λ i. getD s i 0)) (sym h) ∙ elements s
+
+-- the four bytes at a place, and the four words of a block
+pub bytes-at : (s : List ℕ) (at : ℕ) → at + 4 ≤ length s
+    → take 4 (drop at s) ≡ getD s at 0 ∷ getD s (at + 1) 0 ∷ getD s (at + 2) 0 ∷ getD s (at + 3) 0 ∷ []
+bytes-at s at h =
+    sym (elements-of 4 (take 4 (drop at s)) (simp (length-take, length-drop) (omega arith)))
+    ∙ (λ j. one 0 (omega arith) j ∷ one 1 (omega arith) j ∷ one 2 (omega arith) j ∷ one 3 (omega arith) j ∷ [])
+    ∙ ap (λ (k : ℕ). getD s k 0 ∷ getD s (at + 1) 0 ∷ getD s (at + 2) 0 ∷ getD s (at + 3) 0 ∷ []) (add-zero at)
+  where
+    one : (k : ℕ) → k < 4 → getD (take 4 (drop at s)) k 0 ≡ getD s (at + k) 0
+    one k l = getD-take 4 (drop at s) k 0 l ∙ getD-drop at s k 0
+
+pub words-at : (s : List ℕ) (at : ℕ)
+    → take 16 (drop at s) ≡ take 4 (drop at s) ++ take 4 (drop (at + 4) s) ++ take 4 (drop (at + 8) s) ++ take 4 (drop (at + 12) s)
+words-at s at =
+    let z = drop at s in
+    take-add 12 4 z
+    ∙ ap (λ (t : List ℕ). t ++ take 4 (drop 12 z)) (take-add 8 4 z ∙ ap (λ (t : List ℕ). t ++ take 4 (drop 8 z)) (take-add 4 4 z))
+    ∙ (λ i. take 4 z ++ take 4 (drop-drop 4 at s i) ++ take 4 (drop-drop 8 at s i) ++ take 4 (drop-drop 12 at s i))
 
 -- a state of bytes is a block
 state-block : (f : ℕ → ℕ → ℕ) → ((r c : ℕ) → f r c < 256) → Block (state f)

@@ -205,6 +205,11 @@ pub mixed-columns : (f : ℕ → ℕ → ℕ → ℕ → ℕ) (a b c d p q r s :
 unfolding stateOf bytesOf column columnwise
 mixed-columns f a b c d p q r s ep eq er es = λ i. ep i ++ eq i ++ er i ++ es i
 
+-- XOR of two states
+pub added-columns : (a b c d p q r s : ℕ) → stateOf (bitXor a p) (bitXor b q) (bitXor c r) (bitXor d s) ≡ stateOf a b c d ⊕ stateOf p q r s
+unfolding stateOf bytesOf _⊕_
+added-columns a b c d p q r s = λ i. bytes-xor a p i ++ bytes-xor b q i ++ bytes-xor c r i ++ bytes-xor d s i
+
 -- AddRoundKey
 pub keyed-columns : (w : List ℕ) (n a b c d p q r s : ℕ) → length w ≡ 176 → n < 11
     → bytesOf p ≡ word w (4 * n) → bytesOf q ≡ word w (4 * n + 1) → bytesOf r ≡ word w (4 * n + 2) → bytesOf s ≡ word w (4 * n + 3)

@@ -5,8 +5,8 @@ use crate::sbox::lookup;
 use crate::words;
 ghost use mathlib.Core.Path.{_≡_};
 ghost use mathlib.Core.List.{[], _∷_, map};
-ghost use Prim.Native.Nat.{ℕ, _/_, _%_, _<_};
-ghost use lib.ListN.{length};
+ghost use Prim.Native.Nat.{ℕ, _+_, _/_, _%_, _≤_, _<_};
+ghost use lib.ListN.{length, take, drop};
 ghost use Rattle.fips197.specs.Block.{_⊕_, Tabulates};
 ghost use Rattle.fips197.specs.Aes.{shiftRows, invShiftRows, word, roundKey};
 ghost use Rattle.fips197.specs.Words.{bytesOf, stateOf};
@@ -19,15 +19,35 @@ pub struct Columns {
     pub d: u32,
 }
 
+// The state of the block at a place of s.
+pub fn load_at(s: &[u8], at: usize) -> Columns
+    requires { ⌜ at + 16 ≤ length (now s) ⌝ }
+    ensures { λ r. ⌜ stateOf (r .a) (r .b) (r .c) (r .d) ≡ take 16 (drop at (now (s .entry))) ⌝ }
+{
+    Columns {
+        a: words::word_at(s, at),
+        b: words::word_at(s, at + 4),
+        c: words::word_at(s, at + 8),
+        d: words::word_at(s, at + 12),
+    }
+}
+
 // The state of a block.
 pub fn load(s: [u8; 16]) -> Columns
     ensures { λ r. ⌜ stateOf (r .a) (r .b) (r .c) (r .d) ≡ s ⌝ }
 {
+    load_at(&s, 0)
+}
+
+// The XOR of two states.
+pub fn add(x: Columns, y: Columns) -> Columns
+    ensures { λ r. ⌜ stateOf (r .a) (r .b) (r .c) (r .d) ≡ stateOf (x .a) (x .b) (x .c) (x .d) ⊕ stateOf (y .a) (y .b) (y .c) (y .d) ⌝ }
+{
     Columns {
-        a: words::from_bytes(s[0], s[1], s[2], s[3]),
-        b: words::from_bytes(s[4], s[5], s[6], s[7]),
-        c: words::from_bytes(s[8], s[9], s[10], s[11]),
-        d: words::from_bytes(s[12], s[13], s[14], s[15]),
+        a: x.a ^ y.a,
+        b: x.b ^ y.b,
+        c: x.c ^ y.c,
+        d: x.d ^ y.d,
     }
 }
 

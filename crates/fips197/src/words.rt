@@ -1,6 +1,8 @@
 // Words: a column of the state as a 32-bit number, its first byte lowest, so that a step works on four bytes at once.
 ghost use mathlib.Core.Path.{_≡_};
 ghost use mathlib.Core.List.{[], _∷_, map};
+ghost use Prim.Native.Nat.{_+_, _≤_};
+ghost use lib.ListN.{length, take, drop};
 ghost use Rattle.fips197.specs.Field.{xtimes};
 ghost use Rattle.fips197.specs.Aes.{rotWord, mixed, invMixed};
 ghost use Rattle.fips197.specs.Words.{bytesOf, column};
@@ -10,6 +12,14 @@ pub fn from_bytes(a: u8, b: u8, c: u8, d: u8) -> u32
     ensures { λ r. ⌜ bytesOf r ≡ a ∷ b ∷ c ∷ d ∷ [] ⌝ }
 {
     (a as u32) + (b as u32) * 256 + (c as u32) * 65536 + (d as u32) * 16777216
+}
+
+// The word of the four bytes at a place of s.
+pub fn word_at(s: &[u8], at: usize) -> u32
+    requires { ⌜ at + 4 ≤ length (now s) ⌝ }
+    ensures { λ r. ⌜ bytesOf r ≡ take 4 (drop at (now (s .entry))) ⌝ }
+{
+    from_bytes(s[at], s[at + 1], s[at + 2], s[at + 3])
 }
 
 // Each byte times x in the field: shifted, and 1b where its high bit was set.

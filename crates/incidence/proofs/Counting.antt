@@ -88,6 +88,15 @@ count-before p (suc n) i l u e = go (λ b. count-before p n i l b e) (last-or i 
         omega (arith, ap indicator (subst (λ (x : ℕ). p x ≡ true) s e), ap (countUpTo p) z)
     go rest (inr b) = omega (arith, rest b)
 
+-- more numbers have no fewer that pass
+pub count-up : (p : ℕ → Bool) (a b : ℕ) → a ≤ b → countUpTo p a ≤ countUpTo p b
+count-up p a zero h = let e : a ≡ 0 = omega arith in omega (arith, ap (countUpTo p) e)
+count-up p a (suc b) h = go (λ w. count-up p a b w) (last-or a b h)
+  where
+    go : (a ≤ b → countUpTo p a ≤ countUpTo p b) → (a ≡ suc b) ⊎ (a ≤ b) → countUpTo p a ≤ countUpTo p (suc b)
+    go rest (inl e) = omega (arith, ap (countUpTo p) e)
+    go rest (inr w) = omega (arith, rest w)
+
 -- ---- whether any passes
 
 -- where one passes, it can be had

@@ -106,7 +106,7 @@ module _ (F : Family) (L : Lawful F) (n : ℕ) (fits : n ≤ F .items) (changed 
     case-beyond h =
         let e : countUpTo changed n ≤ countUpTo (named F agrees) n = count-mono changed (named F agrees) n finds in
         answer-beyond (F .limit) (disagreeing agrees (F .rows)) (numberNamed F agrees n) (someUnexplained F agrees n (F .rows))
-        (some-disagrees (omega arith)) (omega arith)
+        (some-disagrees (omega arith)) (λ l u. absurd (omega arith))
 
   pub detects : Detects (F .limit) n (ChangedRowsDisagree F n changed agrees) changed (named F agrees) (answer F agrees n)
   detects = record {

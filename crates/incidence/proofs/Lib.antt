@@ -9,3 +9,4 @@ pub mod Reports
 pub mod Detection
 pub mod Rejects
 pub mod Rowwise
+pub mod Differences

@@ -2,7 +2,7 @@
 use Rattle.fips197.proofs.Kit.{_≡_, refl, sym, ap, ap₂, _∙_, subst, Bool, true, false, List, [], _∷_, _++_, _⊎_, inl, inr, ℕ, zero, suc, _+_, _-_, _≤_, _<_, arith, length, getD, drop, length-append, List·getD-append, getD-at}
 use Rattle.blocks.specs.Block.{if_then_else_}
 use Rattle.incidence.specs.Count.{indicator, countUpTo, listed}
-use Rattle.incidence.specs.Family.{Family, rowsOf, itemsOf}
+use Rattle.incidence.specs.Family.{Family, rowsOf, itemsOf, tagsOf}
 use Rattle.incidence.proofs.Counting.{last-or, count-before}
 use Rattle.incidence.proofs.Booleans.{not-both}
 
@@ -36,6 +36,9 @@ listed-rank p (suc n) i l u e = go (λ b. listed-rank p n i l b e) (last-or i n 
         List·getD-append (listed p n) (suc n ∷ []) 0 (countUpTo p (i - 1)) (omega (arith, listed-length p n, count-before p n i l b e)) ∙ rest b
     go rest (inr b) false t = rest b
 
+pub stands : (p : ℕ → Bool) (n x k : ℕ) → 1 ≤ x → x ≤ n → p x ≡ true → countUpTo p (x - 1) ≡ k → getD (listed p n) k 0 ≡ x
+stands p n x k l u o e = subst (λ (y : ℕ). getD (listed p n) y 0 ≡ x) e (listed-rank p n x l u o)
+
 -- x is the member at place k: inside, passing, and with k before it
 pub record Member (p : ℕ → Bool) (n k x : ℕ) : Type 0 where
   pub low : 1 ≤ x
@@ -62,7 +65,13 @@ listed-at p (suc n) k h = go (listed-at p n k) (p (suc n)) refl
             (record { low = omega arith; high = omega arith; passes = t; rank = omega (arith, ap (countUpTo p) z) })
         last (inr b) = rw (List·getD-append (listed p n) (suc n ∷ []) 0 k (omega (arith, listed-length p n))) (wider _ (rest b))
 
--- the rows of an item and the items of a row
+-- what stands at a place of the numbers up to n stands there of those up to a greater one
+pub listed-upto : (p : ℕ → Bool) (n m k : ℕ) → n ≤ m → k < countUpTo p n → getD (listed p m) k 0 ≡ getD (listed p n) k 0
+listed-upto p n m k l h =
+    let M : Member p n k (getD (listed p n) k 0) = listed-at p n k h in
+    stands p m (getD (listed p n) k 0) k (M .low) (omega (arith, M .high)) (M .passes) (M .rank)
+
+-- the rows of an item, the items of a row and the tags of an item
 module _ (F : Family) (j k : ℕ) where
   pub rowsOf-at : k < length (rowsOf F j) → Member (λ i. F .on i j) (F .rows) k (getD (rowsOf F j) k 0)
   unfolding rowsOf
@@ -71,6 +80,11 @@ module _ (F : Family) (j k : ℕ) where
   pub itemsOf-at : k < length (itemsOf F j) → Member (F .on j) (F .items) k (getD (itemsOf F j) k 0)
   unfolding itemsOf
   itemsOf-at h = listed-at (F .on j) (F .items) k (omega (arith, listed-length (F .on j) (F .items)))
+
+  pub tagsOf-at : k < length (tagsOf F j) → Member (λ k. F .on (F .rowOfTag k) j) (F .tags) k (getD (tagsOf F j) k 0)
+  unfolding tagsOf
+  tagsOf-at h =
+      listed-at (λ k. F .on (F .rowOfTag k) j) (F .tags) k (omega (arith, listed-length (λ k. F .on (F .rowOfTag k) j) (F .tags)))
 
 pub none-listed : (p : ℕ → Bool) (n : ℕ) → ((i : ℕ) → p i ≡ false) → listed p n ≡ []
 none-listed p zero h = refl

@@ -1,5 +1,5 @@
 -- The three answers of a report, each with its case.
-use Rattle.fips197.proofs.Kit.{_≡_, refl, sym, ap, _∙_, Bool, true, false, not, _&&_, true≢false, _↔_, ℕ, _≤_, _<_, arith, eqb, leb, eqb-true, eqb-false, leb-true, leb-false, eq-eqb, ne-eqb, le-leb, lt-leb}
+use Rattle.fips197.proofs.Kit.{_≡_, refl, sym, ap, _∙_, Bool, true, false, not, _&&_, true≢false, _↔_, ℕ, _≤_, _<_, arith, eqb, leb, eqb-true, eqb-false, leb-true, leb-false, eq-eqb, ne-eqb, le-leb}
 use Rattle.blocks.specs.Block.{if_then_else_}
 use Rattle.incidence.specs.Report.{meaning, answerBy}
 use Rattle.incidence.specs.declared.Answer.{Answer}
@@ -15,11 +15,17 @@ answer-named d rows names found b l u s =
     let z : rows ≡ 0 → ⊥ = omega arith in
     rw (ne-eqb rows 0 z, le-leb 1 names l, le-leb names d u, s)
 
-pub answer-beyond : (d rows names : ℕ) (found : Bool) → 0 < rows → d < names → answerBy d rows names found ≡ Beyond
+-- the names do not explain the rows: whether one is unexplained matters only where 1 to d items are named
+pub answer-beyond : (d rows names : ℕ) (found : Bool) → 0 < rows → (1 ≤ names → names ≤ d → found ≡ true) → answerBy d rows names found ≡ Beyond
 unfolding answerBy
-answer-beyond d rows names found b u =
+answer-beyond d rows names found b h =
     let z : rows ≡ 0 → ⊥ = omega arith in
-    rw (ne-eqb rows 0 z, le-leb 1 names (omega arith), lt-leb names d u)
+    rw (ne-eqb rows 0 z) (go (leb 1 names) refl (leb names d) refl)
+  where
+    go : (s : Bool) → leb 1 names ≡ s → (t : Bool) → leb names d ≡ t → (if (s && t) && not found then Named else Beyond) ≡ Beyond
+    go true p true q = rw (h (leb-true 1 names p) (leb-true names d q))
+    go true p false q = refl
+    go false p t q = refl
 
 -- what each answer says, by whether no row disagrees and whether the names explain the rows
 abbrev saying : Answer → Bool → Bool → Bool

@@ -1,6 +1,6 @@
 -- The laws of row sums: values of zeros add nothing, made rows add up, a row without a changed place keeps its sum, a change of one place adds
 -- both values, and a message's row sums are had back from those of its tagged rows.
-use Rattle.fips197.proofs.Kit.{_≡_, refl, sym, ap, ap₂, _∙_, subst, Bool, true, false, _&&_, List, [], _∷_, _⊎_, inl, inr, ℕ, zero, suc, _≤_, _<_, arith, eqb, length, getD, eqb-true, eqb-false}
+use Rattle.fips197.proofs.Kit.{_≡_, refl, sym, ap, ap₂, _∙_, subst, Bool, true, false, _&&_, List, [], _∷_, _⊎_, inl, inr, ℕ, zero, suc, _≤_, _<_, arith, eqb, length, getD, eqb-true, eqb-false, eq-eqb, ne-eqb}
 use mathlib.Core.Bool.{xor}
 use Rattle.blocks.specs.Block.{if_then_else_, _⊕_, zeros}
 use Rattle.blocks.proofs.Xor.{⊕-comm, ⊕-assoc, ⊕-length, ⊕-self, ⊕-zeros, ⊕-cancel}
@@ -219,6 +219,36 @@ module _ (F : Family) (L : Lawful F) where
   pub expanded-ext : (s z : ℕ → List ℕ) → ((k : ℕ) → 1 ≤ k → k ≤ F .tags → s k ≡ z k) → (i : ℕ) → 1 ≤ i → i ≤ F .rows → expanded F s i ≡ expanded F z i
   unfolding expanded
   expanded-ext s z h i a u = expanded-in-ext s z h i i a u
+
+  -- as many steps as the row's number are enough
+  expanded-in-enough : (s : ℕ → List ℕ) (n m i : ℕ) → 1 ≤ i → i ≤ n → i ≤ m → i ≤ F .rows → expandedIn F s n i ≡ expandedIn F s m i
+  unfolding expandedIn
+  expanded-in-enough s zero m i a b c u = absurd (omega arith)
+  expanded-in-enough s (suc n) zero i a b c u = absurd (omega arith)
+  expanded-in-enough s (suc n) (suc m) i a b c u = go (λ r d e f. expanded-in-enough s n m r d e f) (eqb (F .tagOfRow i) 0) refl
+    where
+      go : ((r : ℕ) → 1 ≤ r → r ≤ n → r ≤ m → r ≤ F .rows → expandedIn F s n r ≡ expandedIn F s m r) → (t : Bool) → eqb (F .tagOfRow i) 0 ≡ t
+          → (if t then sumOf (expandedIn F s n) (F .made i) else s (F .tagOfRow i)) ≡ (if t then sumOf (expandedIn F s m) (F .made i) else s (F .tagOfRow i))
+      go ih true e =
+          sumOf-ext i (expandedIn F s n) (expandedIn F s m) (F .made i) (L .earlier i a u (eqb-true _ 0 e))
+          (λ r d f. ih r d (omega arith) (omega arith) (omega arith))
+      go ih false e = refl
+
+  -- a row without a tag is had from the rows that it is made of, and another from its tag
+  pub expanded-made : (s : ℕ → List ℕ) (i : ℕ) → 1 ≤ i → i ≤ F .rows → F .tagOfRow i ≡ 0 → expanded F s i ≡ sumOf (expanded F s) (F .made i)
+  unfolding expanded expandedIn
+  expanded-made s zero a u z = absurd (omega arith)
+  expanded-made s (suc i) a u z =
+      ap (λ (t : Bool). if t then sumOf (expandedIn F s i) (F .made (suc i)) else s (F .tagOfRow (suc i))) (eq-eqb _ 0 z)
+      ∙ sumOf-ext (suc i) (expandedIn F s i) (expanded F s) (F .made (suc i)) (L .earlier (suc i) a u z)
+      (λ r c d. expanded-in-enough s i r r c (omega arith) (omega arith) (omega arith))
+
+  pub expanded-tagged : (s : ℕ → List ℕ) (i : ℕ) → 1 ≤ i → 1 ≤ F .tagOfRow i → expanded F s i ≡ s (F .tagOfRow i)
+  unfolding expanded expandedIn
+  expanded-tagged s zero a t = absurd (omega arith)
+  expanded-tagged s (suc i) a t =
+      let z : F .tagOfRow (suc i) ≡ 0 → ⊥ = λ e. omega arith in
+      ap (λ (b : Bool). if b then sumOf (expandedIn F s i) (F .made (suc i)) else s (F .tagOfRow (suc i))) (ne-eqb _ 0 z)
 
   -- a message's row sums are had back from those of its tagged rows
   pub expanded-rowSum : (value : ℕ → List ℕ) → Values value → (n : ℕ) → n ≤ F .items → (i : ℕ) → 1 ≤ i → i ≤ F .rows

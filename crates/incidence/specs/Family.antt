@@ -28,6 +28,10 @@ rowsOf F j = listed (λ i. F .on i j) (F .rows)
 unfoldable pub itemsOf : Family → ℕ → List ℕ
 itemsOf F i = listed (F .on i) (F .items)
 
+-- the tags whose rows hold item j, rising
+unfoldable pub tagsOf : Family → ℕ → List ℕ
+tagsOf F j = listed (λ k. F .on (F .rowOfTag k) j) (F .tags)
+
 -- a row that holds item j and no item of the set
 pub record Separates (F : Family) (set : ℕ → Bool) (j : ℕ) : Type 0 where
   pub row : ℕ

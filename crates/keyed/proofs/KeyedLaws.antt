@@ -1,13 +1,13 @@
 -- What the hash of a vacant place is, and of any other; hashes, masks and tags are blocks; a tag gives its sum back, and a sum its tag; what
 -- a key made ready or expanded gives is what the key gives; and the walks over many blocks.
-use Rattle.fips197.proofs.Kit.{_≡_, refl, sym, ap, _∙_, Bool, true, false, _&&_, and-false, List, [], _++_, ℕ, zero, suc, _+_, _*_, _%_, _≤_, _<_, arith, eqb, leb, length, take, drop, length-take, length-drop, ne-eqb, le-leb, lt-leb}
+use Rattle.fips197.proofs.Kit.{_≡_, refl, sym, ap, _∙_, Bool, true, false, _&&_, and-false, List, [], _++_, ℕ, zero, suc, _+_, _*_, _%_, _≤_, _<_, arith, eqb, leb, length, take, drop, length-append, length-take, length-drop, ne-eqb, le-leb, lt-leb}
 use Rattle.blocks.specs.Block.{if_then_else_, Bytes, Block, _⊕_, zeros, slot, listOf}
 use Rattle.blocks.specs.Number.{bigEndian}
 use Rattle.cipher.specs.Aes.{keyExpansion, cipher, invCipher, encipher, decipher}
 use Rattle.cipher.specs.Cmac.{cmac, macWith, ready}
 use Rattle.cipher.specs.declared.cmac.MacKey.{MacKey}
 use Rattle.blocks.proofs.Xor.{⊕-length, ⊕-block, ⊕-comm, block-cancel, zeros-block, append-bytes}
-use Rattle.blocks.proofs.Numbers.{bigEndian-bytes, bigEndian-pair}
+use Rattle.blocks.proofs.Numbers.{bigEndian-length, bigEndian-bytes, bigEndian-pair}
 use Rattle.blocks.proofs.Doubling.{double-block}
 use Rattle.blocks.proofs.Slots.{Front, slot-length, place-next, second-walk}
 use Rattle.cipher.proofs.Laws.{with-length, inv-with-length, encipher-block, decipher-block, encipher-length, decipher-length, decipher-encipher, encipher-decipher, cmac-block, cmac-length, mac-ready}
@@ -41,6 +41,13 @@ pub hash-filled : (mac : List ℕ → List ℕ) (st : Stamp) (j : ℕ) (item : L
     → itemHashBy mac st j item ≡ mac ((bigEndian 4 (st .number) ++ bigEndian 4 j) ++ item)
 unfolding itemHashBy
 hash-filled mac st j item e = ap (λ (t : Bool). if t then zeros 16 else mac ((bigEndian 4 (st .number) ++ bigEndian 4 j) ++ item)) e
+
+-- what a code is the MAC of: two numbers of 4 bytes, and the item
+pub numbered-length : (a b : ℕ) (item : List ℕ) → length ((bigEndian 4 a ++ bigEndian 4 b) ++ item) ≡ 8 + length item
+numbered-length a b item =
+    let e : length (bigEndian 4 a) ≡ 4 = bigEndian-length 4 a in
+    let f : length (bigEndian 4 b) ≡ 4 = bigEndian-length 4 b in
+    length-append (bigEndian 4 a ++ bigEndian 4 b) item ∙ ap (λ (n : ℕ). n + length item) (length-append (bigEndian 4 a) (bigEndian 4 b) ∙ omega arith)
 
 -- ---- what is handed over for a key
 

@@ -1,5 +1,5 @@
 -- The code's tables are the definitions' lists. A table is tested at each of the five places of a column; past the end both are empty.
-use Rattle.fips197.proofs.Kit.{_≡_, refl, sym, ap, _∙_, Bool, true, false, _&&_, List, [], _∷_, ℕ, zero, suc, _+_, _-_, _≤_, _<_, arith, eqb, ltb, leb, length, getD, take, drop, List·getD-eq-default, getD-take, getD-drop, ltb-true, ltb-false, leb-true, eqb-true}
+use Rattle.fips197.proofs.Kit.{_≡_, refl, sym, ap, _∙_, Bool, true, false, _&&_, List, [], _∷_, ℕ, zero, suc, _+_, _-_, _≤_, _<_, arith, eqb, ltb, leb, length, getD, take, drop, List·getD-eq-default, ltb-true, ltb-false, leb-true, eqb-true}
 use Rattle.blocks.specs.Block.{same}
 use Rattle.blocks.proofs.Xor.{same-true}
 use Rattle.incidence.proofs.Booleans.{and-left, and-right}
@@ -40,11 +40,13 @@ module _ (flat start : List ℕ) (n : ℕ) (f : ℕ → List ℕ) where
         five s (λ u. same-true _ (f s) (and-left (same (take (length (f s)) (drop (getD start s 0) flat)) (f s)) _ (every-at partTest 5 test s u)))
         (λ u. rw (past s u))
 
-    part-at : (k : ℕ) → k < length (f s) → getD flat (getD start s 0 + k) 0 ≡ getD (f s) k 0
-    part-at k h =
-        sym (getD-drop (getD start s 0) flat k 0)
-        ∙ sym (getD-take (length (f s)) (drop (getD start s 0) flat) k 0 h)
-        ∙ ap (λ (l : List ℕ). getD l k 0) part-is
+    -- as the code takes it of a copy
+    module _ {at k : ℕ} {all : List ℕ} (a : at ≡ getD start s 0) (c : k ≡ length (f s)) (e : all ≡ flat) where
+      taken-room : n ≤ length flat → at + k ≤ length all
+      taken-room h = omega (arith, part-end, ap length e)
+
+      taken-part : {r : List ℕ} → r ≡ take (at + k - at) (drop at all) → r ≡ f s
+      taken-part q = let size : at + k - at ≡ length (f s) = omega arith in rw (q, e, size, a) part-is
 
 -- ---- the tables
 
@@ -85,25 +87,30 @@ patterns-test : every (partTest patternTable patternStarts 58 planePattern) 5 �
 unfolding partTest same planePattern patternLists patternTable
 patterns-test = refl
 
--- a plane's part of the table of differences, as the code takes it
+-- a plane's part of each table
 module _ (s : ℕ) {at n : ℕ} (a : at ≡ getD differenceStarts s 0) (c : n ≡ getD (0 ∷ 3 ∷ 5 ∷ 9 ∷ 17 ∷ []) s 0) where
   pub difference-end : at + n ≤ 34
   difference-end = omega (arith, difference-count s, part-end differenceTable differenceStarts 34 differences refl no-differences differences-test s)
 
-  pub difference-room : {all : List ℕ} → all ≡ differenceTable → at + n ≤ length all
-  unfolding differenceTable differenceLists
-  difference-room t = omega (arith, difference-end, ap length t)
+  module _ {all : List ℕ} (e : all ≡ differenceTable) where
+    pub difference-room : at + n ≤ length all
+    unfolding differenceTable differenceLists
+    difference-room = taken-room differenceTable differenceStarts 34 differences refl no-differences differences-test s a (c ∙ difference-count s) e (omega arith)
 
-  pub difference-part : {all r : List ℕ} → all ≡ differenceTable → r ≡ take (at + n - at) (drop at all) → r ≡ differences s
-  difference-part t e =
-      let size : at + n - at ≡ length (differences s) = omega (arith, difference-count s) in
-      rw (e, t, size, a) (part-is differenceTable differenceStarts 34 differences refl no-differences differences-test s)
+    pub difference-part : {r : List ℕ} → r ≡ take (at + n - at) (drop at all) → r ≡ differences s
+    difference-part = taken-part differenceTable differenceStarts 34 differences refl no-differences differences-test s a (c ∙ difference-count s) e
 
-pub step-bound : (s k : ℕ) → k < length (planePattern s) → getD patternStarts s 0 + k < 58
-step-bound s k h = omega (arith, part-end patternTable patternStarts 58 planePattern refl no-pattern patterns-test s)
+module _ (s : ℕ) {at n : ℕ} (a : at ≡ getD patternStarts s 0) (c : n ≡ getD (0 ∷ 3 ∷ 5 ∷ 15 ∷ 35 ∷ []) s 0) where
+  pub pattern-end : at + n ≤ 58
+  pattern-end = omega (arith, pattern-count s, part-end patternTable patternStarts 58 planePattern refl no-pattern patterns-test s)
 
-pub step-at : (s k : ℕ) → k < length (planePattern s) → getD patternTable (getD patternStarts s 0 + k) 0 ≡ getD (planePattern s) k 0
-step-at = part-at patternTable patternStarts 58 planePattern refl no-pattern patterns-test
+  module _ {all : List ℕ} (e : all ≡ patternTable) where
+    pub pattern-room : at + n ≤ length all
+    unfolding patternTable patternLists
+    pattern-room = taken-room patternTable patternStarts 58 planePattern refl no-pattern patterns-test s a (c ∙ pattern-count s) e (omega arith)
+
+    pub pattern-part : {r : List ℕ} → r ≡ take (at + n - at) (drop at all) → r ≡ planePattern s
+    pattern-part = taken-part patternTable patternStarts 58 planePattern refl no-pattern patterns-test s a (c ∙ pattern-count s) e
 
 -- ---- how large the numbers are
 
@@ -124,6 +131,10 @@ items-most = getD-most 273 itemCounts refl
 pub differences-few : (s : ℕ) → length (differences s) ≤ 17
 unfolding most
 differences-few s = omega (arith, difference-count s, getD-most 17 (0 ∷ 3 ∷ 5 ∷ 9 ∷ 17 ∷ []) refl s)
+
+pub pattern-few : (s : ℕ) → length (planePattern s) ≤ 35
+unfolding most
+pattern-few s = omega (arith, pattern-count s, getD-most 35 (0 ∷ 3 ∷ 5 ∷ 15 ∷ 35 ∷ []) refl s)
 
 pub tags-most : (s : ℕ) → planeTags s ≤ 82
 unfolding planeTags tagCounts most

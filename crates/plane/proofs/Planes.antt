@@ -39,6 +39,15 @@ tagged-none t i l = go (leb i t) refl
     go true e h = absurd (omega arith)
     go false e h = leb-false i t e
 
+-- a row's tag is never after the row, whatever s
+pub tag-before : (s i : ℕ) → plane s .tagOfRow i ≤ i
+unfolding plane tagged
+tag-before s i = go (leb i (planeTags s))
+  where
+    go : (b : Bool) → (if b then i else 0) ≤ i
+    go true = omega arith
+    go false = omega arith
+
 -- ---- the planes, s from 1 to 4
 
 module _ (s : ℕ) (low : 1 ≤ s) (high : s ≤ 4) where

@@ -1,22 +1,29 @@
--- Where the rows of an item and the items of a row stand, in rising order, by ranks in the difference list.
-use Rattle.fips197.proofs.Kit.{_≡_, refl, sym, ap, _∙_, subst, Bool, true, false, _&&_, List, [], map, ℕ, suc, _+_, _-_, _≤_, _<_, _%_, add-mod-right, mod-eq-of-lt, arith, ltb, leb, length, getD, length-map, ltb-true, ltb-false, leb-true, leb-false, lt-ltb, le-ltb, le-leb, lt-leb}
+-- Where the rows of an item and the items of a row stand, in rising order, by ranks in the difference list; the first rows are the tags.
+use Rattle.fips197.proofs.Kit.{_≡_, refl, sym, ap, _∙_, subst, Bool, true, false, _&&_, List, [], map, ℕ, suc, _+_, _-_, _≤_, _<_, _%_, add-mod-right, mod-eq-of-lt, arith, ltb, leb, length, getD, length-map, lt-ltb, le-ltb, le-leb, lt-leb}
 use Rattle.blocks.specs.Block.{if_then_else_}
 use Rattle.blocks.proofs.Loop.{map-at}
 use Rattle.incidence.specs.Count.{indicator, countUpTo, listed, inside}
-use Rattle.incidence.specs.Family.{rowsOf, itemsOf}
-use Rattle.incidence.proofs.Counting.{inside-low, inside-high, count-ext}
-use Rattle.incidence.proofs.Listing.{Member, itemsOf-at, listed-at, listed-length, listed-rank, none-listed}
+use Rattle.incidence.specs.Family.{rowsOf, itemsOf, tagsOf}
+use Rattle.incidence.proofs.Booleans.{and-false-r}
+use Rattle.incidence.proofs.Counting.{inside-low, inside-high, count-ext, count-up, count-before}
+use Rattle.incidence.proofs.Listing.{Member, rowsOf-at, itemsOf-at, listed-at, listed-ext, listed-upto, listed-length, stands, none-listed}
 use Rattle.plane.specs.Table.{planeItems, planeTags, planeLimit, differences, planePattern}
 use Rattle.plane.specs.Plane.{member, on, made, tagged, plane}
-use Rattle.plane.specs.Walk.{Walk, along}
+use Rattle.plane.specs.Walk.{Walk}
 use Rattle.plane.proofs.Ranks.{rank, above-at, under-at, member-at, rank-before, rank-most, rank-least, rank-length, count-add, count-down}
-use Rattle.plane.proofs.Lookup.{items-most, differences-few, some-low, some-high}
+use Rattle.plane.proofs.Lookup.{items-most, differences-few, pattern-few, some-low, some-high}
 use Rattle.plane.proofs.Rules.{rules}
 use Rattle.plane.proofs.Cyclic.{Rules, within-at, on-inside, turned, hit, count-hits, count-turn, column-weight, row-weight}
 
--- a number that passes stands behind those before it that do
-stands : (p : ℕ → Bool) (n x k : ℕ) → 1 ≤ x → x ≤ n → p x ≡ true → countUpTo p (x - 1) ≡ k → getD (listed p n) k 0 ≡ x
-stands p n x k l u o e = subst (λ (y : ℕ). getD (listed p n) y 0 ≡ x) e (listed-rank p n x l u o)
+-- ---- answers of the code's tests
+
+pub tag-yes : (t u i : ℕ) → u ≡ t → i ≤ u → i ≡ tagged t i
+unfolding tagged
+tag-yes t u i e h = rw (le-leb i t (omega arith))
+
+pub tag-no : (t u i : ℕ) → u ≡ t → u < i → 0 ≡ tagged t i
+unfolding tagged
+tag-no t u i e h = rw (lt-leb i t (omega arith))
 
 -- ---- items of a row, rows of an item
 
@@ -140,9 +147,9 @@ on-no-item m D i j e = rw e (go (inside m i))
     go false = refl
 
 module _ (s j : ℕ) (out : inside (planeItems s) j ≡ false) where
-  pub rows-out : rowsOf (plane s) j ≡ []
-  unfolding plane rowsOf
-  rows-out = none-listed _ (planeItems s) (λ i. on-no-item (planeItems s) (differences s) i j out)
+  pub tags-out : tagsOf (plane s) j ≡ []
+  unfolding plane tagsOf
+  tags-out = none-listed _ (planeTags s) (λ k. on-no-item (planeItems s) (differences s) (tagged (planeTags s) k) j out)
 
   pub items-out : itemsOf (plane s) j ≡ []
   unfolding plane itemsOf
@@ -154,7 +161,7 @@ module _ {s i turn : ℕ} {D : List ℕ} (W : Walk s i D turn) where
   pub few : length D ≤ 17
   few = omega (arith, ap length (W .list), differences-few s)
 
-  walk-rules : Rules (planeItems s) (planeTags s) (planeLimit s) D (planePattern s)
+  pub walk-rules : Rules (planeItems s) (planeTags s) (planeLimit s) D (planePattern s)
   walk-rules =
       subst (λ (L : List ℕ). Rules (planeItems s) (planeTags s) (planeLimit s) L (planePattern s)) (sym (W .list))
       (rules s (some-low s (omega (arith, W .low, W .high))) (some-high s (omega (arith, W .low, W .high))))
@@ -169,28 +176,30 @@ module _ {s i turn : ℕ} {D : List ℕ} (W : Walk s i D turn) where
   unfolding plane itemsOf
   items-are = ap (λ (L : List ℕ). listed (on (planeItems s) L i) (planeItems s)) (W .list)
 
-  pub walk-length : (back : Bool) → length (along s i back) ≡ length D
-  unfolding along plane rowsOf
-  walk-length true =
-      ap (λ (L : List ℕ). length (listed (λ r. on (planeItems s) L r (planeItems s + 1 - i)) (planeItems s))) (sym (W .list))
-      ∙ rows-length (planeItems s) (planeTags s) (planeLimit s) D (planePattern s) walk-rules i (W .low) (W .high)
-  walk-length false =
-      ap length (sym items-are) ∙ items-length (planeItems s) (planeTags s) (planeLimit s) D (planePattern s) walk-rules i (W .low) (W .high)
+  -- how many items the row has, and as many rows the item that stands as far from the end
+  pub items-many : length (itemsOf (plane s) i) ≡ length D
+  items-many = ap length (sym items-are) ∙ items-length (planeItems s) (planeTags s) (planeLimit s) D (planePattern s) walk-rules i (W .low) (W .high)
+
+  rows-are : listed (λ r. on (planeItems s) D r (planeItems s + 1 - i)) (planeItems s) ≡ rowsOf (plane s) (planeItems s + 1 - i)
+  unfolding plane rowsOf
+  rows-are = ap (λ (L : List ℕ). listed (λ r. on (planeItems s) L r (planeItems s + 1 - i)) (planeItems s)) (W .list)
+
+  pub rows-many : length (rowsOf (plane s) (planeItems s + 1 - i)) ≡ length D
+  rows-many = ap length (sym rows-are) ∙ rows-length (planeItems s) (planeTags s) (planeLimit s) D (planePattern s) walk-rules i (W .low) (W .high)
 
   pub walk-high : {k x : ℕ} → k < length D → x ≡ getD (itemsOf (plane s) i) k 0 → x ≤ planeItems s
-  unfolding plane along
-  walk-high {k} {x} h q = omega (arith, itemsOf-at (plane s) i k (omega (arith, walk-length false)) .high)
+  unfolding plane
+  walk-high {k} {x} h q = omega (arith, itemsOf-at (plane s) i k (omega (arith, items-many)) .high)
 
   module _ {k : ℕ} (h : k < length D) where
     -- the row at place k of the item that stands as far from the end
-    pub walk-back : {x m : ℕ} → m ≡ planeItems s → x ≡ getD (itemsOf (plane s) i) (length D - 1 - k) 0 → m + 1 - x ≡ getD (along s i true) k 0
-    unfolding along plane rowsOf
+    pub walk-back : {x m : ℕ} → m ≡ planeItems s → x ≡ getD (itemsOf (plane s) i) (length D - 1 - k) 0 → m + 1 - x ≡ getD (rowsOf (plane s) (planeItems s + 1 - i)) k 0
     walk-back {x} o q =
         let e : x ≡ getD (listed (on (planeItems s) D i) (planeItems s)) (length D - 1 - k) 0
         = q ∙ ap (λ (L : List ℕ). getD L (length D - 1 - k) 0) (sym items-are) in
         ap (λ (v : ℕ). v + 1 - x) o
         ∙ sym (row-back (planeItems s) (planeTags s) (planeLimit s) D (planePattern s) walk-rules i (W .low) (W .high) k x h e)
-        ∙ ap (λ (L : List ℕ). getD (listed (λ r. on (planeItems s) L r (planeItems s + 1 - i)) (planeItems s)) k 0) (W .list)
+        ∙ ap (λ (L : List ℕ). getD L k 0) rows-are
 
     -- the item at place k: the differences from place `turn` on, and then the others
     module _ {e : ℕ} (l : turn + k < length D) (w : e ≡ getD D (turn + k) 0) where
@@ -219,6 +228,45 @@ module _ {s i turn : ℕ} {D : List ℕ} (W : Walk s i D turn) where
           k (turn + k - length D) e ahead-place w u (omega (arith, W .place, walk-rules .size)))
           ∙ ap (λ (L : List ℕ). getD L k 0) items-are
 
+-- rows 1 to t have the tags 1 to t, so the tags of an item are the first of its rows
+module _ (s j : ℕ) (fits : planeTags s ≤ planeItems s) where
+  tags-are : tagsOf (plane s) j ≡ listed (λ i. plane s .on i j) (planeTags s)
+  unfolding plane tagsOf
+  tags-are =
+      listed-ext _ (λ i. plane s .on i j) (planeTags s) (λ k l u. ap (λ (i : ℕ). plane s .on i j) (sym (tag-yes (planeTags s) (planeTags s) k refl u)))
+
+  tags-many : length (tagsOf (plane s) j) ≡ countUpTo (λ i. plane s .on i j) (planeTags s)
+  tags-many = ap length tags-are ∙ listed-length (λ i. plane s .on i j) (planeTags s)
+
+  pub tags-fewer : length (tagsOf (plane s) j) ≤ length (rowsOf (plane s) j)
+  unfolding plane rowsOf
+  tags-fewer =
+      omega (
+        arith,
+        tags-many,
+        count-up (λ i. plane s .on i j) (planeTags s) (planeItems s) fits,
+        listed-length (λ i. plane s .on i j) (planeItems s),
+      )
+
+  module _ {k r : ℕ} (h : k < length (rowsOf (plane s) j)) (e : r ≡ getD (rowsOf (plane s) j) k 0) where
+    row : Member (λ i. plane s .on i j) (plane s .rows) k r
+    row = subst (Member (λ i. plane s .on i j) (plane s .rows) k) (sym e) (rowsOf-at (plane s) j k h)
+
+    -- up to t, a row is a tag
+    pub tag-next : r ≤ planeTags s → k < length (tagsOf (plane s) j)
+    tag-next u = omega (arith, tags-many, row .rank, count-before (λ i. plane s .on i j) (planeTags s) r (row .low) u (row .passes))
+
+    pub tag-at : r ≤ planeTags s → r ≡ getD (tagsOf (plane s) j) k 0
+    unfolding plane rowsOf
+    tag-at u =
+        e
+        ∙ listed-upto (λ i. plane s .on i j) (planeTags s) (planeItems s) k fits (omega (arith, tags-many, tag-next u))
+        ∙ ap (λ (L : List ℕ). getD L k 0) (sym tags-are)
+
+    -- past t, there are no more
+    pub tags-end : planeTags s < r → length (tagsOf (plane s) j) ≤ k
+    tags-end u = omega (arith, tags-many, row .rank, count-up (λ i. plane s .on i j) (planeTags s) (r - 1) (omega arith))
+
 -- what the code's tests and calls establish
 pub walk-of : {s i m turn : ℕ} {D : List ℕ} → 1 ≤ i → i ≤ planeItems s → m ≡ planeItems s → D ≡ differences s → turn ≡ rank D (m - i) → Walk s i D turn
 walk-of {s} {i} {m} {turn} {D} l u o e p =
@@ -232,77 +280,53 @@ by-inside {A} s i f g = go (inside (planeItems s) i) refl
     go true e = f (inside-low (planeItems s) i e) (inside-high (planeItems s) i e)
     go false e = g e
 
-few-along : (s i : ℕ) → 1 ≤ i → i ≤ planeItems s → (back : Bool) → length (along s i back) ≤ 17
-few-along s i l u back = let W : Walk s i (differences s) _ = walk-of l u refl refl refl in omega (arith, few W, walk-length W back)
-
 pub item-list-few : (s i : ℕ) → length (itemsOf (plane s) i) ≤ 17
-unfolding along
-item-list-few s i = by-inside s i (λ l u. few-along s i l u false) (λ e. omega (arith, ap length (items-out s i e)))
+item-list-few s i =
+    by-inside s i (λ l u. let W : Walk s i (differences s) _ = walk-of l u refl refl refl in omega (arith, few W, items-many W))
+    (λ e. omega (arith, ap length (items-out s i e)))
 
-pub row-list-few : (s j : ℕ) → length (rowsOf (plane s) j) ≤ 17
-unfolding along
-row-list-few s j =
+pub tag-list-few : (s j : ℕ) → length (tagsOf (plane s) j) ≤ 17
+tag-list-few s j =
     by-inside s j
     (λ l u. let e : planeItems s + 1 - (planeItems s + 1 - j) ≡ j = omega arith in
-    omega (arith, few-along s (planeItems s + 1 - j) (omega arith) (omega arith) true, ap (λ (x : ℕ). length (rowsOf (plane s) x)) e))
-    (λ e. omega (arith, ap length (rows-out s j e)))
+    let W : Walk s (planeItems s + 1 - j) (differences s) _ = walk-of (omega arith) (omega arith) refl refl refl in
+    omega (arith, few W, rows-many W, ap (λ (x : ℕ). length (rowsOf (plane s) x)) e, tags-fewer s j (walk-rules W .fits)))
+    (λ e. omega (arith, ap length (tags-out s j e)))
 
 -- ---- made rows
 
 module _ (s i : ℕ) where
-  pub made-none-low : i ≤ planeTags s → length (plane s .made i) ≡ 0
+  pub made-none-low : i ≤ planeTags s → plane s .made i ≡ []
   unfolding plane made
   made-none-low u = rw (le-ltb (planeTags s) i u)
 
-  pub made-none-high : planeItems s < i → length (plane s .made i) ≡ 0
+  pub made-none-high : planeItems s < i → plane s .made i ≡ []
   unfolding plane made
-  made-none-high u = rw (lt-leb i (planeItems s) u) (go (ltb (planeTags s) i))
+  made-none-high u = rw (lt-leb i (planeItems s) u, and-false-r (ltb (planeTags s) i) false refl)
+
+  pub made-list-few : length (plane s .made i) ≤ 35
+  unfolding plane made
+  made-list-few = go (ltb (planeTags s) i && leb i (planeItems s))
     where
-      go : (b : Bool) → length (if b && false then map (λ k. i - k) (planePattern s) else []) ≡ 0
-      go true = refl
-      go false = refl
-
-  made-is : planeTags s < i → i ≤ planeItems s → plane s .made i ≡ map (λ k. i - k) (planePattern s)
-  unfolding plane made
-  made-is l u = rw (lt-ltb (planeTags s) i l, le-leb i (planeItems s) u)
-
-  pub made-length : planeTags s < i → i ≤ planeItems s → length (plane s .made i) ≡ length (planePattern s)
-  made-length l u = ap length (made-is l u) ∙ length-map (planePattern s) (λ k. i - k)
+      go : (b : Bool) → length (if b then map (λ k. i - k) (planePattern s) else []) ≤ 35
+      go true = omega (arith, length-map (planePattern s) (λ k. i - k), pattern-few s)
+      go false = omega arith
 
   -- where a row is made of others
-  module _ (k : ℕ) (h : k < length (plane s .made i)) where
-    past : planeTags s < i
-    past = go (ltb (planeTags s) i) refl
-      where
-        go : (b : Bool) → ltb (planeTags s) i ≡ b → planeTags s < i
-        go true e = ltb-true (planeTags s) i e
-        go false e = absurd (omega (arith, made-none-low (ltb-false (planeTags s) i e)))
+  module _ (past : planeTags s < i) (upto : i ≤ planeItems s) where
+    made-is : plane s .made i ≡ map (λ k. i - k) (planePattern s)
+    unfolding plane made
+    made-is = rw (lt-ltb (planeTags s) i past, le-leb i (planeItems s) upto)
 
-    upto : i ≤ planeItems s
-    upto = go (leb i (planeItems s)) refl
-      where
-        go : (b : Bool) → leb i (planeItems s) ≡ b → i ≤ planeItems s
-        go true e = leb-true i (planeItems s) e
-        go false e = absurd (omega (arith, made-none-high (leb-false i (planeItems s) e)))
+    pub made-length : length (plane s .made i) ≡ length (planePattern s)
+    made-length = ap length made-is ∙ length-map (planePattern s) (λ k. i - k)
 
-    pub made-place : k < length (planePattern s)
-    made-place = omega (arith, made-length past upto)
+    module _ {k e : ℕ} (h : k < length (planePattern s)) (r : e ≡ getD (planePattern s) k 0) where
+      pub made-row : i - e ≡ getD (plane s .made i) k 0
+      made-row = sym (ap (λ (l : List ℕ). getD l k 0) made-is ∙ map-at (λ k. i - k) (planePattern s) k h ∙ ap (λ (x : ℕ). i - x) (sym r))
 
-    pub made-row : (e : ℕ) → e ≡ getD (planePattern s) k 0 → getD (plane s .made i) k 0 ≡ i - e
-    made-row e r = ap (λ (l : List ℕ). getD l k 0) (made-is past upto) ∙ map-at (λ k. i - k) (planePattern s) k made-place ∙ ap (λ (x : ℕ). i - x) (sym r)
-
-    pub made-most : (e : ℕ) → e ≡ getD (planePattern s) k 0 → e ≤ i
-    made-most e r =
-        let R : Rules (planeItems s) (planeTags s) (planeLimit s) (differences s) (planePattern s) =
-        rules s (some-low s (omega (arith, past, upto))) (some-high s (omega (arith, past, upto))) in
-        omega (arith, past, within-at (planeTags s) (planePattern s) (R .near) k made-place)
-
--- ---- answers of the code's tests
-
-pub tag-yes : (t u i : ℕ) → u ≡ t → i ≤ u → i ≡ tagged t i
-unfolding tagged
-tag-yes t u i e h = rw (le-leb i t (omega arith))
-
-pub tag-no : (t u i : ℕ) → u ≡ t → u < i → 0 ≡ tagged t i
-unfolding tagged
-tag-no t u i e h = rw (lt-leb i t (omega arith))
+      pub made-back : e ≤ i
+      made-back =
+          let R : Rules (planeItems s) (planeTags s) (planeLimit s) (differences s) (planePattern s) =
+          rules s (some-low s (omega (arith, past, upto))) (some-high s (omega (arith, past, upto))) in
+          omega (arith, past, within-at (planeTags s) (planePattern s) (R .near) k h)

@@ -5,7 +5,7 @@ use mathlib.Core.List.{List, [], _∷_, _++_}
 use Prim.Native.Nat.{ℕ, _+_, _-_, _≤_}
 use lib.Dec.{ltb, leb}
 use Rattle.blocks.specs.Block.{if_then_else_}
-use Rattle.incidence.specs.Family.{rowsOf, itemsOf}
+use Rattle.incidence.specs.Family.{itemsOf, tagsOf}
 use Rattle.plane.specs.Table.{planeItems, differences}
 use Rattle.plane.specs.Plane.{many, plane}
 
@@ -26,6 +26,6 @@ pub record Walk (s i : ℕ) (D : List ℕ) (turn : ℕ) : Type 0 where
   pub list : D ≡ differences s
   pub place : turn ≡ many (λ e. leb e (planeItems s - i)) D
 
--- the items of row i or, back, the rows of the item that stands as far from the end
+-- the items of row i or, back, the tags of the item that stands as far from the end
 unfoldable pub along : ℕ → ℕ → Bool → List ℕ
-along s i back = if back then rowsOf (plane s) (planeItems s + 1 - i) else itemsOf (plane s) i
+along s i back = if back then tagsOf (plane s) (planeItems s + 1 - i) else itemsOf (plane s) i

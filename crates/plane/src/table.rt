@@ -4,7 +4,7 @@ ghost use mathlib.Core.Path.{_≡_};
 ghost use mathlib.Core.Bool.{true};
 ghost use Prim.Native.Nat.{_<_};
 ghost use lib.ListN.{length, getD};
-ghost use Rattle.plane.specs.Table.{planeItems, planeTags, planeLimit, differenceLists, differences, planePattern};
+ghost use Rattle.plane.specs.Table.{planeItems, planeTags, planeLimit, differenceLists, differences, patternLists, planePattern};
 ghost use Rattle.plane.specs.Plane.{many};
 ghost use Rattle.plane.specs.Walk.{joined, above};
 ghost use lib.Dec.{leb};
@@ -59,7 +59,7 @@ const DIFFERENCES_AT: [usize; 5] = [0, 0, 3, 8, 17];
 const DIFFERENCE_COUNTS: [usize; 5] = [0, 3, 5, 9, 17];
 
 // The four row patterns, one after the other, where each starts and how many entries it has.
-const PATTERNS: [u8; 58] = *b"\
+pub const PATTERNS: [u8; 58] = *b"\
     \x02\x03\x04\
     \x02\x04\x06\x07\x0a\
     \x02\x06\x09\x0a\x0b\x0e\x0f\x10\x13\x14\x17\x18\x19\x1b\x1c\
@@ -119,10 +119,10 @@ pub fn difference_count(s: usize) -> usize
 }
 
 // A number from a table, wider.
-fn from_u8(x: u8) -> usize
+fn from_u8(x: u8) -> u16
     ensures { λ r. ⌜ r ≡ x ⌝ }
 {
-    x as usize
+    x as u16
 }
 
 // Likewise.
@@ -176,17 +176,19 @@ pub fn rank(d: &[u16], x: usize) -> usize
     low
 }
 
-// How many entries the row pattern has.
-pub fn step_count(s: usize) -> usize
-    ensures { λ r. ⌜ r ≡ length (planePattern s) ⌝ }
+// The row pattern, in the table of all.
+pub fn pattern(all: &[u8], s: usize) -> &[u8]
+    requires { ⌜ now all ≡ joined patternLists ⌝ }
+    ensures { λ r. ⌜ now r ≡ planePattern s ⌝ }
 {
-    column(PATTERN_COUNTS, s)
+    let at = column(PATTERNS_AT, s);
+    &all[at..at + column(PATTERN_COUNTS, s)]
 }
 
-// The pattern's entry at place k, from 0: how many rows back.
-pub fn step(s: usize, k: usize) -> usize
-    requires { ⌜ k < length (planePattern s) ⌝ }
-    ensures { λ r. ⌜ r ≡ getD (planePattern s) k 0 ⌝ }
+// Its entry at place k, from 0: how many rows back.
+pub fn step(p: &[u8], k: usize) -> u16
+    requires { ⌜ k < length (now p) ⌝ }
+    ensures { λ r. ⌜ r ≡ getD (now (p .entry)) k 0 ⌝ }
 {
-    from_u8(PATTERNS[column(PATTERNS_AT, s) + k])
+    from_u8(p[k])
 }

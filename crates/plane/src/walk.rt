@@ -1,18 +1,22 @@
-// The rows of an item and the items of a row, in rising order. Row i holds item j when (j − i) modulo m is a difference, so both lists
+// The tags of an item and the items of a row, in rising order. Row i holds item j when (j − i) modulo m is a difference, so both lists
 // follow the difference list from the place where it turns; no pair of row and item is tested. No public function has a premise; a number
 // out of range has no rows, no items and no tag, and is made of none.
 use crate::table;
 ghost use mathlib.Core.Path.{_≡_};
+ghost use mathlib.Core.Bool.{true, false};
 ghost use mathlib.Core.List.{_++_};
-ghost use Prim.Native.Nat.{_-_, _≤_, _<_};
+ghost use Prim.Native.Nat.{_+_, _-_, _≤_, _<_};
 ghost use lib.ListN.{length, getD, drop};
-ghost use Rattle.incidence.specs.Family.{rowsOf, itemsOf};
-ghost use Rattle.plane.specs.Table.{planeItems};
+ghost use Rattle.incidence.specs.Family.{rowsOf, itemsOf, tagsOf};
+ghost use Rattle.plane.specs.Table.{planeItems, planeTags, planePattern};
 ghost use Rattle.plane.specs.Plane.{plane};
 ghost use Rattle.plane.specs.Walk.{Walk, along};
 
-// The most rows that hold an item, and the most items that a row holds: d + 1 where d is 16.
+// The most tags of an item, and the most items that a row holds: d + 1 where d is 16.
 pub const MOST: usize = 17;
+
+// The most rows that a row is made of: the entries of the longest pattern.
+pub const MADE_MOST: usize = 35;
 
 // The item at place k, from 0, of those that row i holds. The differences from place `turn` on go round to the first items, then the
 // others follow.
@@ -28,35 +32,53 @@ fn item_at(d: &[u16], s: usize, i: usize, turn: usize, k: usize) -> usize
     i + table::read(d, place - d.len())
 }
 
-// The number at place k of the walk. Counted from the other end, the rows of an item are the items of a row.
-fn number_at(d: &[u16], s: usize, i: usize, turn: usize, back: bool, k: usize) -> usize
+// The row at place k, from 0, of those that hold item m + 1 - i. Counted from the other end, they are the items of row i.
+fn row_at(d: &[u16], s: usize, i: usize, turn: usize, k: usize) -> usize
     requires { ⌜ Walk s i (now d) turn ⌝ }
     requires { ⌜ k < length (now d) ⌝ }
-    ensures { λ r. ⌜ r ≡ getD (along s i back) k 0 ⌝ }
+    ensures { λ r. ⌜ r ≡ getD (rowsOf (plane s) (planeItems s + 1 - i)) k 0 ⌝ }
 {
-    if back {
-        return table::items(s) + 1 - item_at(d, s, i, turn, d.len() - 1 - k);
-    }
-    item_at(d, s, i, turn, k)
+    table::items(s) + 1 - item_at(d, s, i, turn, d.len() - 1 - k)
 }
 
-// Writes the numbers of the walk to the front of out.
-fn write(d: &[u16], s: usize, i: usize, turn: usize, back: bool, out: &mut [usize]) -> usize
+// Writes the items of row i to the front of out.
+fn write_items(d: &[u16], s: usize, i: usize, turn: usize, out: &mut [usize]) -> usize
     requires { ⌜ Walk s i (now d) turn ⌝ }
     requires { ⌜ 17 ≤ length (now out) ⌝ }
-    ensures written { λ _. ⌜ now (out .exit) ≡ along s i back ++ drop (length (along s i back)) (now (out .entry)) ⌝ }
-    ensures count { λ r. ⌜ r ≡ length (along s i back) ⌝ }
+    ensures written { λ _. ⌜ now (out .exit) ≡ along s i false ++ drop (length (along s i false)) (now (out .entry)) ⌝ }
+    ensures count { λ r. ⌜ r ≡ length (along s i false) ⌝ }
 {
     let n = d.len();
     let mut k = 0;
     while k < n {
-        out[k] = number_at(d, s, i, turn, back, k);
+        out[k] = item_at(d, s, i, turn, k);
         k += 1;
     }
     n
 }
 
-// Walks along the items of row i or, from the other end, the rows of item m + 1 - i.
+// Writes the tags of item m + 1 - i to the front of out. Rows 1 to t have the tags 1 to t, so they are its rows up to t.
+fn write_tags(d: &[u16], s: usize, i: usize, turn: usize, out: &mut [usize]) -> usize
+    requires { ⌜ Walk s i (now d) turn ⌝ }
+    requires { ⌜ 17 ≤ length (now out) ⌝ }
+    ensures written { λ _. ⌜ now (out .exit) ≡ along s i true ++ drop (length (along s i true)) (now (out .entry)) ⌝ }
+    ensures count { λ r. ⌜ r ≡ length (along s i true) ⌝ }
+{
+    let n = d.len();
+    let t = table::tags(s);
+    let mut k = 0;
+    while k < n {
+        let row = row_at(d, s, i, turn, k);
+        if t < row {
+            return k;
+        }
+        out[k] = row;
+        k += 1;
+    }
+    k
+}
+
+// Walks along the items of row i or, from the other end, the tags of item m + 1 - i.
 fn walk(s: usize, i: usize, back: bool, out: &mut [usize]) -> usize
     requires { ⌜ (1 ≤ i) × (i ≤ planeItems s) ⌝ }
     requires { ⌜ 17 ≤ length (now out) ⌝ }
@@ -66,13 +88,16 @@ fn walk(s: usize, i: usize, back: bool, out: &mut [usize]) -> usize
     let all = table::DIFFERENCES;
     let d = table::differences(&all, s);
     let turn = table::rank(d, table::items(s) - i);
-    write(d, s, i, turn, back, out)
+    if back {
+        return write_tags(d, s, i, turn, out);
+    }
+    write_items(d, s, i, turn, out)
 }
 
-// Writes the rows that hold item j, rising, to the front of out, and gives how many; what is behind them stays.
-pub fn rows_of(s: usize, j: usize, out: &mut [usize; MOST]) -> usize
-    ensures written { λ _. ⌜ now (out .exit) ≡ rowsOf (plane s) j ++ drop (length (rowsOf (plane s) j)) (now (out .entry)) ⌝ }
-    ensures count { λ r. ⌜ r ≡ length (rowsOf (plane s) j) ⌝ }
+// Writes the tags whose rows hold item j, rising, to the front of out, and gives how many; what is behind them stays.
+pub fn tags_of(s: usize, j: usize, out: &mut [usize; MOST]) -> usize
+    ensures written { λ _. ⌜ now (out .exit) ≡ tagsOf (plane s) j ++ drop (length (tagsOf (plane s) j)) (now (out .entry)) ⌝ }
+    ensures count { λ r. ⌜ r ≡ length (tagsOf (plane s) j) ⌝ }
 {
     let m = table::items(s);
     if incidence::inside(m, j) {
@@ -101,9 +126,27 @@ pub fn tag_of_row(s: usize, i: usize) -> usize
     if i <= table::tags(s) { i } else { 0 }
 }
 
-// How many earlier rows row i is made of, 0 where it has a tag.
-pub fn made_count(s: usize, i: usize) -> usize
-    ensures { λ r. ⌜ r ≡ length (plane s .made i) ⌝ }
+// Writes the rows that row i is made of, so many rows back as its plane's pattern says, to the front of out.
+fn write_made(p: &[u8], s: usize, i: usize, out: &mut [u16]) -> usize
+    requires { ⌜ (planeTags s < i) × (i ≤ planeItems s) × (now p ≡ planePattern s) ⌝ }
+    requires { ⌜ 35 ≤ length (now out) ⌝ }
+    ensures written { λ _. ⌜ now (out .exit) ≡ plane s .made i ++ drop (length (plane s .made i)) (now (out .entry)) ⌝ }
+    ensures count { λ r. ⌜ r ≡ length (plane s .made i) ⌝ }
+{
+    let n = p.len();
+    let row = i as u16;
+    let mut k = 0;
+    while k < n {
+        out[k] = row - table::step(p, k);
+        k += 1;
+    }
+    n
+}
+
+// Writes the rows that row i is made of to the front of out, and gives how many; none where it has a tag. What is behind them stays.
+pub fn made_of(s: usize, i: usize, out: &mut [u16; MADE_MOST]) -> usize
+    ensures written { λ _. ⌜ now (out .exit) ≡ plane s .made i ++ drop (length (plane s .made i)) (now (out .entry)) ⌝ }
+    ensures count { λ r. ⌜ r ≡ length (plane s .made i) ⌝ }
 {
     if i <= table::tags(s) {
         return 0;
@@ -111,15 +154,6 @@ pub fn made_count(s: usize, i: usize) -> usize
     if table::items(s) < i {
         return 0;
     }
-    table::step_count(s)
-}
-
-// The row at place k, from 0, among those that row i is made of.
-pub fn made_at(s: usize, i: usize, k: usize) -> usize
-    ensures { λ r. ⌜ r ≡ getD (plane s .made i) k 0 ⌝ }
-{
-    if made_count(s, i) <= k {
-        return 0;
-    }
-    i - table::step(s, k)
+    let all = table::PATTERNS;
+    write_made(table::pattern(&all, s), s, i, out)
 }

@@ -29,8 +29,9 @@ use Rattle.tagging.specs.Tagging.{keysIn, hashes, fileOf, tagFile}
 use Rattle.scheme.specs.Calls.{stampIn, sumFrom, agrees}
 use Rattle.scheme.specs.Claim.{Unaltered, changed, NoRowCancels, marked, Claim}
 use Rattle.checks.specs.Passed.{Reportable}
+use Rattle.tagging.proofs.Summing.{hashes-long}
 use Rattle.scheme.proofs.Unaltered as U
-use Rattle.scheme.proofs.Unaltered.{KeyBlocks, key-blocks, hashes-long}
+use Rattle.scheme.proofs.Unaltered.{KeyBlocks, key-blocks}
 
 -- ---- the marks written
 

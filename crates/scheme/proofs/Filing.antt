@@ -1,5 +1,5 @@
 -- From sums to files and back: what the calls write, and the sums that a file gives.
-use Rattle.fips197.proofs.Kit.{_≡_, refl, sym, ap, ap₂, _∙_, Bool, true, false, List, _++_, ℕ, suc, _+_, _-_, _*_, _≤_, _<_, arith, length, take, drop, length-append, length-take, length-drop, take-at, drop-at}
+use Rattle.fips197.proofs.Kit.{_≡_, refl, sym, ap, ap₂, _∙_, subst, Bool, true, false, List, _++_, ℕ, suc, _+_, _-_, _*_, _≤_, _<_, arith, length, take, drop, length-append, length-take, length-drop, take-at, drop-at}
 use Rattle.blocks.specs.Block.{if_then_else_, _⊕_, slot, listOf, same}
 use Rattle.cipher.specs.Aes.{encipher, decipher}
 use Rattle.blocks.proofs.Xor.{same-true, same-eq}
@@ -59,6 +59,21 @@ sums-read key f tags before after t hk eg et fits e =
 
     long : length (listOf value t) ≡ 16 * t
     long = listOf-length value t blocks
+
+-- ---- Report
+
+-- the message's sums added to those had back from the tags
+pub differences-made : (keys : Keys) (s f before tagged after : List ℕ) (st : Stamp) (c : ℕ) → st ≡ stampIn (versionOf f) s → c ≡ codeOf f
+    → Holds (familyOf (codeOf f) .tags) (sumTagged keys f) before tagged
+    → Holds (familyOf c .tags) (λ k. sumIn tagged k ⊕ tagSum keys st c (item s) (itemCount s) k) tagged after
+    → Holds (familyOf (codeOf f) .tags) (λ k. sumTagged keys f k ⊕ tagSum keys (stampIn (versionOf f) s) (codeOf f) (item s) (itemCount s) k) before after
+differences-made keys s f before tagged after st c es ec T A =
+    let H = subst (λ (x : ℕ). Holds (familyOf x .tags) (λ k. sumIn tagged k ⊕ tagSum keys st x (item s) (itemCount s) k) tagged after) ec A in
+    record {
+      size = H .size ∙ T .size;
+      sums = λ k l u. H .sums k l u ∙ ap₂ (λ (x : List ℕ) (y : Stamp). x ⊕ tagSum keys y (codeOf f) (item s) (itemCount s) k) (T .sums k l u) es;
+      rest = H .rest ∙ T .rest;
+    }
 
 -- ---- Replace
 
@@ -126,3 +141,7 @@ tags-written k K s f z sums y tags st c t end hk ek es ec et ee H e =
 pub tag-key-long : (k : Keys) (s : List ℕ) → k ≡ keysIn s → length s ≡ 48 → length (k .tag) ≡ 16
 unfolding keysIn
 tag-key-long k s e h = ap (λ (x : Keys). length (x .tag)) e ∙ slot-length s 1 (omega arith)
+
+pub item-key-long : (k : Keys) (s : List ℕ) → k ≡ keysIn s → length s ≡ 48 → length (k .item) ≡ 16
+unfolding keysIn
+item-key-long k s e h = ap (λ (x : Keys). length (x .item)) e ∙ slot-length s 0 (omega arith)

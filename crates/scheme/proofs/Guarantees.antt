@@ -30,7 +30,8 @@ use Rattle.checks.specs.Refused.{refuse21, refuse25, tagRefusal, verifyRefusal,
 use Rattle.scheme.specs.Calls.{stampIn, tagsFor, verifyYes, sumTagged, replacedSum, replacedItem, replaceWrites}
 use Rattle.scheme.specs.Claim.{Unaltered, changed, NoRowCancels, marked, Claim}
 use Rattle.checks.proofs.Checking.{taggable, reportable}
-use Rattle.scheme.proofs.Unaltered.{key-blocks, hashes-long, head-is, tags-are, accepted, sums-back}
+use Rattle.tagging.proofs.Summing.{hashes-long}
+use Rattle.scheme.proofs.Unaltered.{key-blocks, head-is, tags-are, accepted, sums-back}
 use Rattle.scheme.proofs.Claiming.{number-says}
 
 -- ---- nothing is refused

@@ -4,7 +4,7 @@ use Rattle.blocks.specs.Block.{if_then_else_, Bytes, Block, _⊕_, slot, listOf
 use Rattle.blocks.proofs.Xor.{⊕-block, zeros-block, append-bytes, take-bytes, drop-bytes}
 use Rattle.blocks.proofs.Slots.{slot-length, listOf-length, slot-listOf}
 use Rattle.incidence.specs.Sum.{sumOver, rowSum, expanded}
-use Rattle.incidence.proofs.Sums.{Values, expanded-ext, expanded-rowSum}
+use Rattle.incidence.proofs.Sums.{expanded-ext, expanded-rowSum}
 use Rattle.sizes.specs.Sizes.{known, familyOf}
 use Rattle.sizes.proofs.Laws.{lawful}
 use Rattle.files.specs.Refusals.{none}
@@ -15,9 +15,10 @@ use Rattle.files.specs.TagFile.{newestTagFile, headOf, tagsIn, countFits, refus
 use Rattle.incidence.proofs.Booleans.{and-left, and-right}
 use Rattle.files.proofs.Accepted.{head-back, tags-back, written-accepted}
 use Rattle.keyed.specs.Keyed.{tagOf, sumOfTag}
-use Rattle.keyed.proofs.KeyedLaws.{itemHash-length, itemHash-block, tagOf-block, tagOf-length, sumOfTag-tagOf}
+use Rattle.keyed.proofs.KeyedLaws.{itemHash-block, tagOf-block, tagOf-length, sumOfTag-tagOf}
 use Rattle.tagging.specs.declared.Keys.{Keys}
 use Rattle.tagging.specs.Tagging.{keysIn, hashes, tagSum, fileOf, tagFile}
+use Rattle.tagging.proofs.Summing.{hashes-long}
 use Rattle.scheme.specs.Calls.{sumTagged, sumExpanded}
 
 -- ---- keys and sums are blocks
@@ -43,11 +44,6 @@ sum-block p value (suc n) h = go (p (suc n)) (sum-block p value n (λ j l u. h j
     go : (b : Bool) → Block (sumOver p value n) → Block (if b then sumOver p value n ⊕ value (suc n) else sumOver p value n)
     go true r = ⊕-block _ _ r (h (suc n) (omega arith) (omega arith))
     go false r = r
-
--- a hash has 16 bytes, whatever the item
-pub hashes-long : (K : Keys) → length (K .item) ≡ 16 → (st : Stamp) (items : ℕ → List ℕ) → Values (hashes K st items)
-unfolding hashes
-hashes-long K h st items j = itemHash-length (K .item) h st j (items j)
 
 -- ---- lists of blocks are bytes
 

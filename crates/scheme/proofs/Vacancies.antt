@@ -24,7 +24,8 @@ use Rattle.tagging.proofs.Writing.{file-length}
 use Rattle.checks.specs.Refused.{replaceRefusal}
 use Rattle.scheme.specs.Calls.{replacedItem, replaceWrites}
 use Rattle.scheme.specs.Claim.{changed}
-use Rattle.scheme.proofs.Unaltered.{KeyBlocks, key-blocks, hashes-long, tags-are}
+use Rattle.tagging.proofs.Summing.{hashes-long}
+use Rattle.scheme.proofs.Unaltered.{KeyBlocks, key-blocks, tags-are}
 use Rattle.scheme.proofs.Guarantees.{replaced-there, replace-passes, replace-afresh}
 
 -- ---- no item

@@ -2,6 +2,8 @@
 // each call does its work or refuses by number, and a refused call leaves the buffer that it was lent as it was.
 use cipher::aes;
 use cipher::cmac;
+use cipher::engine;
+use cipher::engine::Tables;
 use decoding::Decoded;
 use files::Refusal;
 use files::message;
@@ -13,15 +15,16 @@ ghost use mathlib.Core.Path.{_≡_};
 ghost use mathlib.Core.List.{_++_};
 ghost use Prim.Native.Nat.{_*_, _≤_};
 ghost use lib.ListN.{length, drop};
-ghost use Rattle.blocks.specs.Block.{same};
+ghost use Rattle.blocks.specs.Block.{_⊕_, same};
+ghost use Rattle.cipher.specs.Engine.{EngineTables};
 ghost use Rattle.incidence.specs.Report.{named, numberNamed, disagreeing, answer};
 ghost use Rattle.sizes.specs.Sizes.{familyOf};
 ghost use Rattle.stamp.specs.Front.{versionOf};
-ghost use Rattle.files.specs.Message.{itemsAt, itemCount, item};
+ghost use Rattle.files.specs.Message.{itemsAt, itemCount, item, Sound};
 ghost use Rattle.files.specs.TagFile.{fileSize, codeOf, headOf, tagsIn, Formed};
 ghost use Rattle.sums.specs.Adding.{Holds};
 ghost use Rattle.decoding.specs.Decoding.{marksOf};
-ghost use Rattle.tagging.specs.Tagging.{keysIn, fileOf, tagFile, tagHead};
+ghost use Rattle.tagging.specs.Tagging.{keysIn, tagSum, fileOf, tagFile, tagHead};
 ghost use Rattle.checks.specs.Refused.{tagRefusal, verifyRefusal, reportRefusal, replaceRefusal};
 ghost use Rattle.checks.specs.Passed.{Taggable, Comparable, Reportable, Replaceable};
 ghost use Rattle.scheme.specs.Calls.{tagWrites, stampIn, tagsFor, verifyYes, sumTagged, agrees, reportWrites, reportAnswer, reportNamed, reportRows, replacedSum, replaceWrites};
@@ -32,11 +35,12 @@ fn write_tag_file(keys: &[u8], code: u64, s: &[u8], out: &mut [u8])
     requires { ⌜ Taggable (now keys) code (now s) (length (now out)) ⌝ }
     ensures { λ _. ⌜ now (out .exit) ≡ tagFile (keysIn (now (keys .entry))) (tagHead code (now (s .entry))) (item (now (s .entry))) ++ drop (fileSize (tagHead code (now (s .entry)))) (now (out .entry)) ⌝ }
 {
+    let t = engine::tables();
     let k = tagging::keys_in(keys);
     let head = tagging::head_for(code, s);
     let mut sums = [0u8; sums::TAGS_MOST];
-    tagging::sum_tags(head.code, k, head.stamp, s, &mut sums);
-    tagging::write_file(head, k, &sums, out);
+    tagging::add_items(&t, head.code, k, head.stamp, s, &mut sums);
+    tagging::write_file(&t, head, k, &sums, out);
 }
 
 // Tag: writes the tag file of a message for a size code to the front of out; the bytes behind stay.
@@ -72,7 +76,8 @@ pub struct Verified {
 }
 
 // Whether the tags of a message that is not refused equal the file's.
-fn tags_equal(keys: &[u8], s: &[u8], f: &[u8]) -> bool
+fn tags_equal(t: &Tables, keys: &[u8], s: &[u8], f: &[u8]) -> bool
+    requires { ⌜ EngineTables (now t) ⌝ }
     requires { ⌜ Comparable (now keys) (now s) (now f) ⌝ }
     ensures { λ r. ⌜ r ≡ same (tagsFor (keysIn (now (keys .entry))) (versionOf (now (f .entry))) (codeOf (now (f .entry))) (now (s .entry))) (tagsIn (now (f .entry))) ⌝ }
 {
@@ -80,12 +85,12 @@ fn tags_equal(keys: &[u8], s: &[u8], f: &[u8]) -> bool
     let tag_key = k.tag;
     let head = tagfile::head_of(f);
     let written = head.stamp;
-    let t = sizes::tags(head.code);
-    let end = 16 * t;
+    let n = sizes::tags(head.code);
+    let end = 16 * n;
     let mut sums = [0u8; sums::TAGS_MOST];
-    tagging::sum_tags(head.code, k, stamp_in(written.version, s), s, &mut sums);
+    tagging::add_items(t, head.code, k, stamp_in(written.version, s), s, &mut sums);
     let mut tags = [0u8; sums::TAGS_MOST];
-    keyed::write_tags(aes::key_expansion(tag_key), &sums, t, &mut tags);
+    keyed::write_tags(t, aes::key_expansion(tag_key), &sums, n, &mut tags);
     check::same(&tags[0..end], tagfile::tags_in(f))
 }
 
@@ -95,14 +100,15 @@ pub fn verify(keys: &[u8], message: &[u8], file: &[u8]) -> Verified
     ensures refused { λ r. ⌜ r .refused ≡ verifyRefusal (now (keys .entry)) (now (message .entry)) (now (file .entry)) ⌝ }
     ensures yes { λ r. ⌜ r .yes ≡ verifyYes (now (keys .entry)) (now (message .entry)) (now (file .entry)) ⌝ }
 {
-    let refused = checks::verify_refusal(keys, message, file);
+    let t = engine::tables();
+    let refused = checks::verify_refusal(&t, keys, message, file);
     if refused.number != 0 {
         return Verified {
             refused: refused,
             yes: false,
         };
     }
-    let yes = tags_equal(keys, message, file);
+    let yes = tags_equal(&t, keys, message, file);
     Verified {
         refused: refused,
         yes: yes,
@@ -110,31 +116,52 @@ pub fn verify(keys: &[u8], message: &[u8], file: &[u8]) -> Verified
 }
 
 // Fills the front of sums with those that the tags of a file were made of; what is behind them stays.
-fn read_sums(keys: Keys, f: &[u8], sums: &mut [u8])
+fn read_sums(t: &Tables, keys: Keys, f: &[u8], sums: &mut [u8])
+    requires { ⌜ EngineTables (now t) ⌝ }
     requires { ⌜ Formed (now f) ⌝ }
     requires { ⌜ 16 * familyOf (codeOf (now f)) .tags ≤ length (now sums) ⌝ }
     ensures { λ _. ⌜ Holds (familyOf (codeOf (now (f .entry))) .tags) (sumTagged keys (now (f .entry))) (now (sums .entry)) (now (sums .exit)) ⌝ }
 {
     let key = keys.tag;
     let head = tagfile::head_of(f);
-    let t = sizes::tags(head.code);
-    keyed::write_sums(aes::key_expansion(key), tagfile::tags_in(f), t, sums);
+    let n = sizes::tags(head.code);
+    keyed::write_sums(t, aes::key_expansion(key), tagfile::tags_in(f), n, sums);
 }
 
 // Writes the file with the old item's hash and the new one's added to the sums of the item's tagged rows, sealed, to the front of out.
-fn write_replaced(keys: &[u8], f: &[u8], j: u64, old: &[u8], new: &[u8], out: &mut [u8])
-    requires { ⌜ Replaceable (now keys) (now f) j (length (now out)) ⌝ }
+fn write_replaced(t: &Tables, keys: &[u8], f: &[u8], j: u64, old: &[u8], new: &[u8], out: &mut [u8])
+    requires { ⌜ EngineTables (now t) ⌝ }
+    requires { ⌜ Replaceable (now keys) (now f) j (now old) (now new) (length (now out)) ⌝ }
     ensures { λ _. ⌜ now (out .exit) ≡ fileOf (keysIn (now (keys .entry))) (headOf (now (f .entry))) (replacedSum (keysIn (now (keys .entry))) (now (f .entry)) j (now (old .entry)) (now (new .entry))) ++ drop (fileSize (headOf (now (f .entry)))) (now (out .entry)) ⌝ }
 {
     let k = tagging::keys_in(keys);
     let item_key = k.item;
     let head = tagfile::head_of(f);
     let mut sums = [0u8; sums::TAGS_MOST];
-    read_sums(k, f, &mut sums);
-    let m = cmac::prepare(item_key);
-    tagging::add_item(head.code, m, head.stamp, &mut sums, j as usize, old);
-    tagging::add_item(head.code, m, head.stamp, &mut sums, j as usize, new);
-    tagging::write_file(head, k, &sums, out);
+    read_sums(t, k, f, &mut sums);
+    let m = cmac::prepare(t, item_key);
+    let mut room = [0u8; keyed::ROOM];
+    tagging::add_item(
+        t,
+        head.code,
+        m,
+        head.stamp,
+        &mut sums,
+        j as usize,
+        old,
+        &mut room,
+    );
+    tagging::add_item(
+        t,
+        head.code,
+        m,
+        head.stamp,
+        &mut sums,
+        j as usize,
+        new,
+        &mut room,
+    );
+    tagging::write_file(t, head, k, &sums, out);
 }
 
 // Replace: writes the tag file with item j's old bytes replaced by new ones, in the file's version, to the front of out; the bytes
@@ -144,11 +171,12 @@ pub fn replace(keys: &[u8], file: &[u8], j: u64, old: &[u8], new: &[u8], out: &m
     ensures refused { λ r. ⌜ r ≡ replaceRefusal (now (keys .entry)) (now (file .entry)) j (now (old .entry)) (now (new .entry)) (length (now (out .entry))) ⌝ }
     ensures written { λ _. ⌜ now (out .exit) ≡ replaceWrites (now (keys .entry)) (now (file .entry)) j (now (old .entry)) (now (new .entry)) (now (out .entry)) ⌝ }
 {
-    let r = checks::replace_refusal(keys, file, j, old, new, out.len());
+    let t = engine::tables();
+    let r = checks::replace_refusal(&t, keys, file, j, old, new, out.len());
     if r.number != 0 {
         return r;
     }
-    write_replaced(keys, file, j, old, new, out);
+    write_replaced(&t, keys, file, j, old, new, out);
     r
 }
 
@@ -160,8 +188,24 @@ pub struct Reported {
     pub rows: usize,
 }
 
-// Decodes the row sums of a message that is not refused against those expanded from the tag file.
-fn decode_files(keys: &[u8], s: &[u8], f: &[u8], marks: &mut [u8]) -> Decoded
+// Fills the front of sums with the differences of the tags: of each, the sum had back from it and the message's, XORed; what is behind them
+// stays.
+fn read_differences(t: &Tables, keys: Keys, s: &[u8], f: &[u8], sums: &mut [u8])
+    requires { ⌜ EngineTables (now t) ⌝ }
+    requires { ⌜ Sound (now s) ⌝ }
+    requires { ⌜ Formed (now f) ⌝ }
+    requires { ⌜ 16 * familyOf (codeOf (now f)) .tags ≤ length (now sums) ⌝ }
+    ensures { λ _. ⌜ Holds (familyOf (codeOf (now (f .entry))) .tags) (λ k. sumTagged keys (now (f .entry)) k ⊕ tagSum keys (stampIn (versionOf (now (f .entry))) (now (s .entry))) (codeOf (now (f .entry))) (item (now (s .entry))) (itemCount (now (s .entry))) k) (now (sums .entry)) (now (sums .exit)) ⌝ }
+{
+    let head = tagfile::head_of(f);
+    let written = head.stamp;
+    read_sums(t, keys, f, sums);
+    tagging::add_items(t, head.code, keys, stamp_in(written.version, s), s, sums);
+}
+
+// Decodes a message that is not refused against the tag file, by the differences of their sums.
+fn decode_files(t: &Tables, keys: &[u8], s: &[u8], f: &[u8], marks: &mut [u8]) -> Decoded
+    requires { ⌜ EngineTables (now t) ⌝ }
     requires { ⌜ Reportable (now keys) (now s) (now f) (length (now marks)) ⌝ }
     ensures written { λ _. ⌜ now (marks .exit) ≡ marksOf (named (familyOf (codeOf (now (f .entry)))) (agrees (keysIn (now (keys .entry))) (now (s .entry)) (now (f .entry)))) (itemCount (now (s .entry))) ++ drop (itemCount (now (s .entry))) (now (marks .entry)) ⌝ }
     ensures answer { λ r. ⌜ r .answer ≡ answer (familyOf (codeOf (now (f .entry)))) (agrees (keysIn (now (keys .entry))) (now (s .entry)) (now (f .entry))) (itemCount (now (s .entry))) ⌝ }
@@ -170,15 +214,10 @@ fn decode_files(keys: &[u8], s: &[u8], f: &[u8], marks: &mut [u8]) -> Decoded
 {
     let k = tagging::keys_in(keys);
     let head = tagfile::head_of(f);
-    let written = head.stamp;
     let n = message::item_count(s);
-    let mut from = [0u8; sums::ROWS_MOST];
-    tagging::sum_rows(head.code, k, stamp_in(written.version, s), s, &mut from);
-    let mut tagged = [0u8; sums::TAGS_MOST];
-    read_sums(k, f, &mut tagged);
-    let mut expanded = [0u8; sums::ROWS_MOST];
-    sums::fill_rows(head.code, &tagged, &mut expanded);
-    decoding::decode(head.code, n, &from, &expanded, marks)
+    let mut sums = [0u8; sums::ROWS_MOST];
+    read_differences(t, k, s, f, &mut sums);
+    decoding::decode_tags(head.code, n, &mut sums, marks)
 }
 
 // Report: writes a mark for each item of the message, 1 named and 0 cleared, to the front of marks; the bytes behind stay.
@@ -192,7 +231,8 @@ pub fn report(keys: &[u8], message: &[u8], file: &[u8], marks: &mut [u8]) -> Rep
     ensures rows { λ r. ⌜ r .rows ≡ reportRows (now (keys .entry)) (now (message .entry)) (now (file .entry)) (now (marks .entry)) ⌝ }
     ensures detection { λ r. ⌜ (r .refused .number ≡ 0 → Claim (now (keys .entry)) (now (message .entry)) (now (file .entry)) (now (marks .exit)) (r .named) (r .answer)) ⌝ }
 {
-    let refused = checks::report_refusal(keys, message, file, marks.len());
+    let t = engine::tables();
+    let refused = checks::report_refusal(&t, keys, message, file, marks.len());
     if refused.number != 0 {
         return Reported {
             refused: refused,
@@ -201,7 +241,7 @@ pub fn report(keys: &[u8], message: &[u8], file: &[u8], marks: &mut [u8]) -> Rep
             rows: 0,
         };
     }
-    let found = decode_files(keys, message, file, marks);
+    let found = decode_files(&t, keys, message, file, marks);
     let said = found.answer;
     Reported {
         refused: refused,

@@ -17,7 +17,7 @@ use Rattle.keyed.specs.Keyed.{itemHash}
 use Rattle.keyed.proofs.KeyedLaws.{empty-vacant, hash-vacant, itemHash-length}
 use Rattle.sums.specs.Adding.{sumIn, Holds}
 use Rattle.tagging.specs.Tagging.{keysIn, hashes, tagSum, fileOf, tagFile}
-use Rattle.tagging.proofs.Summing.{zero-sums, summed-first, summed-next}
+use Rattle.tagging.proofs.Summing.{zero-sums, summed-first, summed-next, summed-zeros, zeros-summed, tagSum-length}
 use Rattle.tagging.proofs.Writing.{file-same}
 use Rattle.session.specs.declared.Session.{Session}
 use Rattle.session.specs.Session.{closed, isOpen, sessionHead, refuse22, refuse23, refuse24, beginRefusal, beginGives, putRefusal, addedToTags, withItem, putGives, closeRefusal, closeGives, closeWrites, after}
@@ -45,6 +45,14 @@ module _ (keys : List ℕ) (c n number : ℕ) (items : ℕ → List ℕ) where
   empty : Session
   empty = record { number = number; code = c; count = n; taken = 0; keys = keysIn keys; sums = zeros 1312 }
 
+  -- its sums are zeros
+  clear : (t : ℕ) → 1 ≤ t → t ≤ familyOf c .tags → sumIn (zeros 1312) t ≡ zeros 16
+  clear t lo hi = zero-sums 1312 t lo (omega (arith, tags-few c))
+
+  sums-long : length keys ≡ 48 → (k t : ℕ) → length (tagSum (keysIn keys) (stampFor number) c items k t) ≡ 16
+  unfolding keysIn
+  sums-long long k t = tagSum-length (keysIn keys) (stampFor number) c items k (slot-length keys 0 (omega arith)) t
+
   carries-none : beginRefusal keys c n ≡ none → Carries 0 empty
   unfolding empty tagSum sumIn isOpen countFits
   carries-none e =
@@ -55,8 +63,8 @@ module _ (keys : List ℕ) (c n number : ℕ) (items : ℕ → List ℕ) where
         count = refl;
         taken = refl;
         same-keys = refl;
-        sums = summed-first (familyOf c) (familyOf c .tags) (familyOf c .rowOfTag) (hashes (keysIn keys) (stampFor number) items) (zeros 1312)
-            (λ t lo hi. zero-sums 1312 t lo (omega (arith, tags-few c)));
+        sums = summed-zeros (familyOf c .tags) (tagSum (keysIn keys) (stampFor number) c items 0) (zeros 1312) (zeros 1312) clear (sums-long (b .long) 0)
+            (summed-first (familyOf c) (hashes (keysIn keys) (stampFor number) items) (zeros 1312) 0 refl);
         is-open = and-both (and-both (b .code) (and-both (le-leb 1 n (b .low)) (le-leb n _ (b .high)))) (le-leb 0 n (omega arith));
       }
 
@@ -88,9 +96,10 @@ module _ (keys : List ℕ) (c n number : ℕ) (items : ℕ → List ℕ) where
           taken = place;
           same-keys = H .same-keys;
           sums = subst (λ (x : List ℕ). Holds (F .tags) (tagSum (keysIn keys) (stampFor number) c items (suc k)) (zeros 1312) x) (sym sums-next)
-              (summed-next F (F .tags) (F .rowOfTag) (hashes (keysIn keys) (stampFor number) items) (zeros 1312) (s .sums) _ hash k (suc k) (sym (add-one k)) refl
-              (H .sums)
-              (tags-added c (suc k) hash (s .sums) hash-length l));
+              (summed-zeros (F .tags) (tagSum (keysIn keys) (stampFor number) c items (suc k)) (zeros 1312) _ clear (sums-long long (suc k))
+              (summed-next F (hashes (keysIn keys) (stampFor number) items) (zeros 1312) (s .sums) _ hash k (suc k) (sym (add-one k)) refl
+              (zeros-summed (F .tags) (tagSum (keysIn keys) (stampFor number) c items k) (zeros 1312) (s .sums) clear (sums-long long k) (H .sums))
+              (tags-added c (suc k) hash (s .sums) hash-length l)));
           is-open = and-both (and-left (countFits (s .code) (s .count)) (leb (s .taken) (s .count)) (H .is-open))
               (le-leb (s .taken + 1) (s .count) (omega (arith, q .more)));
         }

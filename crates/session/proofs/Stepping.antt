@@ -59,15 +59,20 @@ open-tells s h =
     let t = and-left (known (s .code) && (a && b)) (leb (s .taken) (s .count)) (unless-passes (isOpen s) 24 0 (omega arith) h) in
     (and-left (known (s .code)) (a && b) t, leb-true _ _ (and-right a b (and-right (known (s .code)) (a && b) t)))
 
-pub record Puts (s : Session) : Type 0 where
+pub record Puts (s : Session) (item : List ℕ) : Type 0 where
   pub code : known (s .code) ≡ true
   pub more : s .taken < s .count
+  pub short : length item ≤ 1024
 
-pub put-tells : (s : Session) (item : List ℕ) (r : Refusal) → r ≡ putRefusal s item → r .number ≡ 0 → Puts s
-unfolding putRefusal refuse22
+pub put-tells : (s : Session) (item : List ℕ) (r : Refusal) → r ≡ putRefusal s item → r .number ≡ 0 → Puts s item
+unfolding putRefusal refuse22 refuse9
 put-tells s item r e h =
     let p = all-pass (refuse24 s) (refuse22 s) (refuse9 (length item) 0) (number-of r _ e h) in
-    record { code = open-tells s (p .0) .0; more = ltb-true _ _ (unless-passes (ltb (s .taken) (s .count)) 22 0 (omega arith) (p .1)) }
+    record {
+      code = open-tells s (p .0) .0;
+      more = ltb-true _ _ (unless-passes (ltb (s .taken) (s .count)) 22 0 (omega arith) (p .1));
+      short = leb-true _ _ (unless-passes (leb (length item) 1024) 9 0 (omega arith) (p .2));
+    }
 
 pub record Closes (s : Session) (out : List ℕ) : Type 0 where
   pub code : known (s .code) ≡ true

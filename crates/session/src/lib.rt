@@ -1,6 +1,7 @@
 // Sessions (document 01): a message tagged item by item, where it is never whole in memory. Each step takes the session and gives back
 // the next; nothing is held anywhere else.
 use cipher::cmac;
+use cipher::engine;
 use files::Refusal;
 use files::arguments;
 use files::refusals::first3;
@@ -11,7 +12,8 @@ use tagging::Keys;
 ghost use mathlib.Core.Path.{_≡_};
 ghost use mathlib.Core.Bool.{true};
 ghost use mathlib.Core.List.{[], _∷_};
-ghost use Prim.Native.Nat.{_<_};
+ghost use Prim.Native.Nat.{_≤_, _<_};
+ghost use lib.ListN.{length};
 ghost use Rattle.sizes.specs.Sizes.{known};
 ghost use Rattle.files.specs.Refusals.{first};
 ghost use Rattle.files.specs.Arguments.{refuse7};
@@ -129,6 +131,7 @@ impl Session {
     fn with_item(self, item: &[u8]) -> Session
         requires { ⌜ known (self .code) ≡ true ⌝ }
         requires { ⌜ self .taken < self .count ⌝ }
+        requires { ⌜ length (now item) ≤ 1024 ⌝ }
         ensures { λ r. ⌜ r ≡ withItem self (now (item .entry)) ⌝ }
     {
         let code = self.code;
@@ -136,8 +139,11 @@ impl Session {
         let key = keys.item;
         let stamp = tagfile::stamp_for(self.number);
         let j = self.taken + 1;
+        let t = engine::tables();
+        let k = cmac::prepare(&t, key);
         let mut sums = self.sums;
-        tagging::add_item(code, cmac::prepare(key), stamp, &mut sums, j as usize, item);
+        let mut room = [0u8; keyed::ROOM];
+        tagging::add_item(&t, code, k, stamp, &mut sums, j as usize, item, &mut room);
         Session {
             number: self.number,
             code,
@@ -204,7 +210,8 @@ impl Session {
         }
         let keys = self.keys;
         let sums = self.sums;
-        tagging::write_file(self.head(), keys, &sums, out);
+        let t = engine::tables();
+        tagging::write_file(&t, self.head(), keys, &sums, out);
         let session = closed();
         Step { refused, session }
     }

@@ -3,7 +3,7 @@
 use Rattle.fips197.proofs.Kit.{_≡_, refl, ap, _∙_, sym, Bool, true, false, List, _++_, _⊎_, inl, inr, ℕ, zero, suc, _/_, _%_, _≤_, _<_, arith, leb, length, getD, drop, List·getD-append, leb-true, leb-false}
 use Rattle.blocks.specs.Block.{if_then_else_}
 use Rattle.incidence.specs.Count.{inside}
-use Rattle.incidence.specs.Family.{Family, Lawful, rowsOf, itemsOf}
+use Rattle.incidence.specs.Family.{Family, Lawful, itemsOf, tagsOf}
 use Rattle.incidence.proofs.Booleans.{or-cases, or-first, or-second, not-both, not-passed}
 use Rattle.incidence.proofs.Counting.{inside-low, inside-high, inside-yes}
 use Rattle.plane.specs.Table.{itemCounts, planeItems, tagCounts, planeTags, limits, planeLimit}
@@ -118,16 +118,26 @@ pub unknown : (c : ℕ) → known c ≡ false → Empty (familyOf c)
 unfolding known
 unknown c h = by-kind Empty c (λ e. absurd (not-both _ (or-second (inside 4 c) e) h)) (λ e. no-plane c (not-passed _ (λ t. not-both _ (or-first (affineCode c) t) h)))
 
--- what `rows_of` and `items_of` write fits into their buffer, and stands there
-pub row-list-few : (c j : ℕ) → length (rowsOf (familyOf c) j) ≤ 17
+-- a row's tag is never after the row
+pub tag-before : (c i : ℕ) → familyOf c .tagOfRow i ≤ i
 unfolding affineCode
-row-list-few c j =
-    by-kind (λ F. length (rowsOf F j) ≤ 17) c (λ e. omega (arith, affines.row-list-few (c / 16) (c % 16) e j)) (λ e. walks.row-list-few c j)
+tag-before c i = by-kind (λ F. F .tagOfRow i ≤ i) c (λ e. affines.tag-before (c / 16) (c % 16) e i) (λ e. planes.tag-before c i)
+
+-- what `tags_of`, `items_of` and `made_of` write fits into their buffers, and stands there
+pub tag-list-few : (c j : ℕ) → length (tagsOf (familyOf c) j) ≤ 17
+unfolding affineCode
+tag-list-few c j =
+    by-kind (λ F. length (tagsOf F j) ≤ 17) c (λ e. omega (arith, affines.tag-list-few (c / 16) (c % 16) e j)) (λ e. walks.tag-list-few c j)
 
 pub item-list-few : (c i : ℕ) → length (itemsOf (familyOf c) i) ≤ 17
 unfolding affineCode
 item-list-few c i =
     by-kind (λ F. length (itemsOf F i) ≤ 17) c (λ e. omega (arith, affines.item-list-few (c / 16) (c % 16) e i)) (λ e. walks.item-list-few c i)
+
+pub made-list-few : (c i : ℕ) → length (familyOf c .made i) ≤ 35
+unfolding affineCode
+made-list-few c i =
+    by-kind (λ F. length (F .made i) ≤ 35) c (λ e. affines.made-list-few (c / 16) (c % 16) e i) (λ e. walks.made-list-few c i)
 
 pub written-at : (l was : List ℕ) {now : List ℕ} {n : ℕ} → (now ≡ l ++ drop (length l) was) × (n ≡ length l) → (k : ℕ) → k < n → getD now k 0 ≡ getD l k 0
 written-at l was w k h = ap (λ (x : List ℕ). getD x k 0) (w .0) ∙ List·getD-append l (drop (length l) was) 0 k (omega (arith, w .1))

@@ -1,15 +1,18 @@
 // The size codes: the one place that names them. What a code's family has, as numbers and lists; the crates above call nothing else of
 // it. No call has a premise, and each contract is stated outright for every code and number. For a code that is none, or a number out of
-// range, `known` answers false and the others 0, and no rows and no items are written.
+// range, `known` answers false and the others 0, and nothing is written.
 ghost use mathlib.Core.Path.{_≡_};
 ghost use mathlib.Core.List.{_++_};
 ghost use Prim.Native.Nat.{_/_, _%_};
-ghost use lib.ListN.{length, getD, drop};
-ghost use Rattle.incidence.specs.Family.{rowsOf, itemsOf};
+ghost use lib.ListN.{length, drop};
+ghost use Rattle.incidence.specs.Family.{itemsOf, tagsOf};
 ghost use Rattle.sizes.specs.Sizes.{affineCode, known, familyOf};
 
-// How long a buffer for the rows of an item or the items of a row is: for every code, no list is longer.
+// How long a buffer for the tags of an item or the items of a row is, and one for the rows that a row is made of: for every code, no list
+// is longer.
 pub const MOST: usize = plane::walk::MOST;
+
+pub const MADE_MOST: usize = plane::walk::MADE_MOST;
 
 // What a code says of an affine size, 16 s + l: s.
 fn exponent(code: u64) -> usize
@@ -85,15 +88,15 @@ pub fn limit(code: u64) -> usize
     plane::table::limit(code as usize)
 }
 
-// Writes the rows that hold an item, rising, to the front of out, and gives how many; what is behind them stays.
-pub fn rows_of(code: u64, item: usize, out: &mut [usize; MOST]) -> usize
-    ensures written { λ _. ⌜ now (out .exit) ≡ rowsOf (familyOf code) item ++ drop (length (rowsOf (familyOf code) item)) (now (out .entry)) ⌝ }
-    ensures count { λ r. ⌜ r ≡ length (rowsOf (familyOf code) item) ⌝ }
+// Writes the tags whose rows hold an item, rising, to the front of out, and gives how many; what is behind them stays.
+pub fn tags_of(code: u64, item: usize, out: &mut [usize; MOST]) -> usize
+    ensures written { λ _. ⌜ now (out .exit) ≡ tagsOf (familyOf code) item ++ drop (length (tagsOf (familyOf code) item)) (now (out .entry)) ⌝ }
+    ensures count { λ r. ⌜ r ≡ length (tagsOf (familyOf code) item) ⌝ }
 {
     if is_affine(code) {
-        return affine::walk::rows_of(exponent(code), chosen_lines(code), item, out);
+        return affine::walk::tags_of(exponent(code), chosen_lines(code), item, out);
     }
-    plane::walk::rows_of(code as usize, item, out)
+    plane::walk::tags_of(code as usize, item, out)
 }
 
 // Writes the items that a row holds, rising, to the front of out, and gives how many; what is behind them stays.
@@ -117,22 +120,14 @@ pub fn tag_of_row(code: u64, row: usize) -> usize
     plane::walk::tag_of_row(code as usize, row)
 }
 
-// How many earlier rows a row without a tag is made of; 0 for a tagged row.
-pub fn made_count(code: u64, row: usize) -> usize
-    ensures { λ r. ⌜ r ≡ length (familyOf code .made row) ⌝ }
+// Writes the rows that a row without a tag is made of to the front of out, and gives how many; none for a tagged row. What is behind them
+// stays.
+pub fn made_of(code: u64, row: usize, out: &mut [u16; MADE_MOST]) -> usize
+    ensures written { λ _. ⌜ now (out .exit) ≡ familyOf code .made row ++ drop (length (familyOf code .made row)) (now (out .entry)) ⌝ }
+    ensures count { λ r. ⌜ r ≡ length (familyOf code .made row) ⌝ }
 {
     if is_affine(code) {
-        return affine::walk::made_count(exponent(code), chosen_lines(code), row);
+        return affine::walk::made_of(exponent(code), chosen_lines(code), row, out);
     }
-    plane::walk::made_count(code as usize, row)
-}
-
-// The row at place k, from 0, of those that a row is made of.
-pub fn made_at(code: u64, row: usize, k: usize) -> usize
-    ensures { λ r. ⌜ r ≡ getD (familyOf code .made row) k 0 ⌝ }
-{
-    if is_affine(code) {
-        return affine::walk::made_at(exponent(code), chosen_lines(code), row, k);
-    }
-    plane::walk::made_at(code as usize, row, k)
+    plane::walk::made_of(code as usize, row, out)
 }

@@ -1,13 +1,12 @@
 -- Arrays of sums (000, section 4.3: S[1] .. S[v]): sum i, counted from 1, is block i − 1 of the array. Assumes nothing.
 use mathlib.Core.Path.{_≡_}
 use mathlib.Core.Bool.{Bool}
-use mathlib.Core.List.{List, _++_}
-use Prim.Native.Nat.{ℕ, zero, suc, _+_, _-_, _*_, _≤_}
+use mathlib.Core.List.{List}
+use Prim.Native.Nat.{ℕ, _-_, _*_, _≤_}
 use lib.Dec.{eqb}
-use lib.ListN.{length, take, drop}
+use lib.ListN.{length, drop}
 use Rattle.blocks.specs.Block.{if_then_else_, _⊕_, slot}
 use Rattle.incidence.specs.Family.{Family}
-use Rattle.incidence.specs.Sum.{sumOf}
 
 -- sum i of an array
 unfoldable pub sumIn : List ℕ → ℕ → List ℕ
@@ -23,11 +22,6 @@ pub record Holds (n : ℕ) (sum : ℕ → List ℕ) (before after : List ℕ) : 
 abbrev pub Added : (ℕ → Bool) → ℕ → List ℕ → List ℕ → List ℕ → Type 0
 Added p n value before after = Holds n (λ i. if p i then sumIn before i ⊕ value else sumIn before i) before after
 
--- an array with a value added to sum t; as it was where t is 0
-unfoldable pub addedAt : List ℕ → ℕ → List ℕ → List ℕ
-addedAt s zero value = s
-addedAt s (suc t) value = take (16 * t) s ++ ((slot s t ⊕ value) ++ drop (16 * t + 16) s)
-
--- what row i's sum is, from the sums of the tags and those of earlier rows in s
-unfoldable pub rowFrom : Family → List ℕ → List ℕ → ℕ → List ℕ
-rowFrom F tags s i = if eqb (F .tagOfRow i) 0 then sumOf (sumIn s) (F .made i) else sumIn tags (F .tagOfRow i)
+-- what stands at row i once the tags' sums, which stood at the front, have moved to their rows: another row's is as it was
+unfoldable pub spread : Family → List ℕ → ℕ → List ℕ
+spread F s i = if eqb (F .tagOfRow i) 0 then sumIn s i else sumIn s (F .tagOfRow i)

@@ -3,12 +3,12 @@
 use Rattle.fips197.proofs.Kit.{_≡_, refl, sym, ap, ap₂, _∙_, List, [], _∷_, _++_, map, ℕ, _+_, _*_, _/_, _%_, _<_, zero-mul, one-mul, arith, lit<, length, getD, bitXor, xor-comm, xor-zero-r}
 use Rattle.fips197.specs.Block.{_⊕_}
 use Rattle.fips197.specs.Field.{productBy, _•_}
-use Rattle.fips197.specs.Aes.{rotWord, mixed, invMixed, shiftRows, invShiftRows, columnwise, invMixColumns}
+use Rattle.fips197.specs.Aes.{sbox, rotWord, mixed, invMixed, shiftRows, invShiftRows, columnwise, invMixColumns}
 use Rattle.fips197.specs.Words.{bytesOf, stateOf, column}
 use Rattle.fips197.proofs.Xor.{xor-assoc, xor-left, ⊕-assoc, ⊕-at}
 use Rattle.fips197.proofs.Mixing.{product-xor}
 use Rattle.fips197.proofs.WordLaws.{bytes-xor}
-use Rattle.tables.specs.RoundTables.{RoundTables, spread, invSpread, down}
+use Rattle.tables.specs.RoundTables.{RoundTables, roundEntry, spread, invSpread, down}
 
 -- ---- a column
 
@@ -45,6 +45,13 @@ module _ (t : List ℕ) (f : ℕ → List ℕ) (e : RoundTables t f) where
 by-1 : (a : ℕ) → 1 • a ≡ a
 unfolding _•_ productBy
 by-1 a = simp (zero-mul, one-mul, xor-zero-r)
+
+-- the second byte of an entry is 1 times the S-box
+pub read-sbox : (t : List ℕ) → RoundTables t roundEntry → (x : ℕ) → x < 256 → getD t x 0 / 256 % 256 ≡ sbox x
+unfolding bytesOf down spread roundEntry
+read-sbox t e x h =
+    let q : x ≡ 256 * 0 + x = omega arith in
+    ap (λ (k : ℕ). getD t k 0 / 256 % 256) q ∙ ap (λ (l : List ℕ). getD l 1 0) (e .entry 0 x (lit< tt) h) ∙ by-1 (sbox x)
 
 module _ (p q r s : ℕ) where
   pub spread-sum : down 0 (spread p) ⊕ down 1 (spread q) ⊕ down 2 (spread r) ⊕ down 3 (spread s) ≡ column mixed (p ∷ q ∷ r ∷ s ∷ [])

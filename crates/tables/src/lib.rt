@@ -1,8 +1,7 @@
 // AES-128 by round tables, the second engine (document 02, request 2.8): a look-up for each byte joins SubBytes and MixColumns. Its calls
 // have the contracts of the plain engine's, so that for every key and block each gives what the other gives. A caller with many blocks
-// takes the tables once and calls `rounds::cipher`.
+// takes the tables once and calls `rounds::absorb`.
 use fips197::inv_sbox;
-use fips197::sbox;
 ghost use mathlib.Core.Path.{_≡_};
 ghost use Rattle.fips197.specs.Aes.{cipher, invCipher};
 
@@ -16,8 +15,7 @@ pub fn encipher_with(w: [u8; 176], block: [u8; 16]) -> [u8; 16]
     ensures { λ r. ⌜ r ≡ cipher w block ⌝ }
 {
     let t = round_tables::table();
-    let last = sbox::table();
-    rounds::cipher(&t, &last, &w, block)
+    rounds::absorb(&t, &w, [0u8; 16], &block)
 }
 
 // Deciphers a block with an expanded key.

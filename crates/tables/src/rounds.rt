@@ -1,16 +1,20 @@
 // The rounds of FIPS 197 (5.1 and 5.3) by tables: for each column, four look-ups and their XOR. The last round does not mix, so
-// it goes through the S-box. Tables and schedule are passed down by reference, so that they are copied once for a caller's many blocks.
+// it goes through the S-box, which enciphering reads off the tables. Tables and schedule are passed down by reference, so that they are
+// copied once for a caller's many blocks.
 use fips197::columns::Columns;
+use fips197::columns::add;
 use fips197::columns::add_round_key;
 use fips197::columns::inv_shift;
 use fips197::columns::load;
-use fips197::columns::shift;
+use fips197::columns::load_at;
 use fips197::columns::store;
+use fips197::words::from_bytes;
 use fips197::words::turn_twice;
 ghost use mathlib.Core.Path.{_≡_};
-ghost use mathlib.Core.List.{List, _++_};
+ghost use mathlib.Core.List.{List, [], _∷_, _++_};
 ghost use Prim.Native.Nat.{ℕ, _+_, _*_, _/_, _%_, _<_};
 ghost use lib.ListN.{length};
+ghost use Rattle.blocks.specs.Chain.{chain};
 ghost use Rattle.fips197.specs.Block.{_⊕_, Tabulates};
 ghost use Rattle.fips197.specs.Aes.{sbox, subBytes, shiftRows, mixColumns, cipher};
 ghost use Rattle.fips197.specs.Aes.{invSbox, invSubBytes, invShiftRows, invMixColumns, invCipher};
@@ -75,20 +79,74 @@ fn add_words(s: Columns, k: &[u32; 44], n: usize) -> Columns
     }
 }
 
-// The cipher with the tables, the S-box's table and a schedule.
-pub fn cipher(t: &[u32; 512], last: &[u8; 256], w: &[u8; 176], input: [u8; 16]) -> [u8; 16]
+// The S-box of a byte, which is the second byte of its entry: 1 times it.
+fn sub_byte(t: &[u32; 512], b: u32) -> u8
     requires { ⌜ RoundTables (now t) roundEntry ⌝ }
-    requires { ⌜ Tabulates (now last) sbox ⌝ }
-    requires { ⌜ length (now w) ≡ 176 ⌝ }
-    ensures { λ r. ⌜ r ≡ cipher (now (w .entry)) input ⌝ }
+    ensures { λ r. ⌜ r ≡ sbox (b % 256) ⌝ }
 {
-    let mut s = add_round_key(load(input), w, 0);
+    (t[(b % 256) as usize] / 256 % 256) as u8
+}
+
+// A byte of each of four columns, the first of one, the second of the next and so on, through the S-box.
+fn gather(t: &[u32; 512], a: u32, b: u32, c: u32, d: u32) -> u32
+    requires { ⌜ RoundTables (now t) roundEntry ⌝ }
+    ensures { λ r. ⌜ bytesOf r ≡ sbox (a % 256) ∷ sbox (b / 256 % 256) ∷ sbox (c / 65536 % 256) ∷ sbox (d / 16777216 % 256) ∷ [] ⌝ }
+{
+    from_bytes(
+        sub_byte(t, a),
+        sub_byte(t, b / 256),
+        sub_byte(t, c / 65536),
+        sub_byte(t, d / 16777216),
+    )
+}
+
+// SubBytes and ShiftRows.
+fn shift(t: &[u32; 512], s: Columns) -> Columns
+    requires { ⌜ RoundTables (now t) roundEntry ⌝ }
+    ensures { λ r. ⌜ stateOf (r .a) (r .b) (r .c) (r .d) ≡ shiftRows (subBytes (stateOf (s .a) (s .b) (s .c) (s .d))) ⌝ }
+{
+    let a = s.a;
+    let b = s.b;
+    let c = s.c;
+    let d = s.d;
+    Columns {
+        a: gather(t, a, b, c, d),
+        b: gather(t, b, c, d, a),
+        c: gather(t, c, d, a, b),
+        d: gather(t, d, a, b, c),
+    }
+}
+
+// The cipher with the tables and a schedule. `absorb` alone calls it, so that it is compiled into that loop.
+fn cipher(t: &[u32; 512], w: &[u8; 176], input: Columns) -> Columns
+    requires { ⌜ RoundTables (now t) roundEntry ⌝ }
+    requires { ⌜ length (now w) ≡ 176 ⌝ }
+    ensures { λ r. ⌜ stateOf (r .a) (r .b) (r .c) (r .d) ≡ cipher (now (w .entry)) (stateOf (input .a) (input .b) (input .c) (input .d)) ⌝ }
+{
+    let mut s = add_round_key(input, w, 0);
     let mut n = 0;
     while n < 9 {
         n += 1;
         s = add_round_key(mix(t, s), w, n);
     }
-    store(add_round_key(shift(last, s), w, 10))
+    add_round_key(shift(t, s), w, 10)
+}
+
+// The chain from x over the whole blocks of s, its value kept in four words from block to block.
+pub fn absorb(t: &[u32; 512], w: &[u8; 176], x: [u8; 16], s: &[u8]) -> [u8; 16]
+    requires { ⌜ RoundTables (now t) roundEntry ⌝ }
+    requires { ⌜ length (now w) ≡ 176 ⌝ }
+    ensures { λ r. ⌜ r ≡ chain (cipher (now (w .entry))) x (now (s .entry)) (length (now (s .entry)) / 16) ⌝ }
+{
+    let n = s.len() / 16;
+    let mut y = load(x);
+    let mut i = 0;
+    while i < n {
+        let block = load_at(s, 16 * i);
+        y = cipher(t, w, add(y, block));
+        i += 1;
+    }
+    store(y)
 }
 
 // The inverse cipher with the inverse tables, the inverse S-box's table and the words of a deciphering schedule.

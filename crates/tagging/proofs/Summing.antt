@@ -1,10 +1,12 @@
 -- A walk over items adds each value to the sums of its rows: after k items, the sums are those of the first k.
-use Rattle.fips197.proofs.Kit.{_≡_, refl, sym, ap, ap₂, _∙_, subst, Bool, List, _∷_, _++_, ℕ, zero, suc, _+_, _-_, _*_, _≤_, _<_, arith, add-one, length, take, drop, take-add, take-append-drop}
+use Rattle.fips197.proofs.Kit.{_≡_, refl, sym, ap, ap₂, _∙_, subst, Bool, true, false, List, _∷_, _++_, ℕ, zero, suc, _+_, _-_, _*_, _≤_, _<_, arith, add-one, length, take, drop, length-take, take-add, take-append-drop}
 use Rattle.blocks.specs.Block.{if_then_else_, _⊕_, zeros, slot, listOf}
+use Rattle.blocks.proofs.Xor.{⊕-comm, ⊕-assoc, ⊕-zeros}
 use Rattle.cipher.specs.Cmac.{macWith, ready}
 use Rattle.cipher.specs.declared.cmac.MacKey.{MacKey}
 use Rattle.incidence.specs.Family.{Family}
 use Rattle.incidence.specs.Sum.{sumOver, rowSum}
+use Rattle.incidence.proofs.Sums.{Values, sum-length}
 use Rattle.sizes.specs.Sizes.{familyOf}
 use Rattle.stamp.specs.declared.Stamp.{Stamp}
 use Rattle.files.specs.declared.Refusal.{Refusal}
@@ -12,10 +14,10 @@ use Rattle.files.specs.Refusals.{none}
 use Rattle.files.specs.Message.{number16, itemCount, behind, itemStart, itemSize, item, refuse5}
 use Rattle.files.proofs.Messages.{Fits, item-fits}
 use Rattle.keyed.specs.Keyed.{itemHash, itemHashBy}
-use Rattle.keyed.proofs.KeyedLaws.{hash-ready, hashes-ready}
+use Rattle.keyed.proofs.KeyedLaws.{hash-ready, hashes-ready, itemHash-length}
 use Rattle.sums.specs.Adding.{sumIn, Holds, Added}
 use Rattle.tagging.specs.declared.Keys.{Keys}
-use Rattle.tagging.specs.Tagging.{keysIn}
+use Rattle.tagging.specs.Tagging.{keysIn, hashes, tagSum}
 
 -- ---- arrays of zeros
 
@@ -35,30 +37,64 @@ zero-sums m k l h = ap (take 16) (drop-zeros (16 * (k - 1)) m) ∙ take-zeros 16
 
 -- ---- the walk
 
-module _ (F : Family) (n : ℕ) (rowOf : ℕ → ℕ) (value : ℕ → List ℕ) where
-  pub summed-first : (s : List ℕ) → ((t : ℕ) → 1 ≤ t → t ≤ n → sumIn s t ≡ zeros 16) → Holds n (λ t. rowSum F value 0 (rowOf t)) s s
-  unfolding rowSum sumOver
-  summed-first s z = record { size = refl; sums = z; rest = refl }
+-- the sums with those of the first k items added
+abbrev pub Summed : Family → (ℕ → List ℕ) → ℕ → List ℕ → List ℕ → Type 0
+Summed F value k before after = Holds (F .tags) (λ t. sumIn before t ⊕ rowSum F value k (F .rowOfTag t)) before after
 
-  pub summed-next : (before s s′ v : List ℕ) (k j : ℕ) → j ≡ k + 1 → v ≡ value j → Holds n (λ t. rowSum F value k (rowOf t)) before s
-      → Added (λ t. F .on (rowOf t) j) n v s s′ → Holds n (λ t. rowSum F value j (rowOf t)) before s′
+module _ (F : Family) (value : ℕ → List ℕ) where
+  pub summed-first : (s : List ℕ) (k : ℕ) → k ≡ 0 → Summed F value k s s
+  unfolding rowSum sumOver sumIn slot
+  summed-first s k e = subst (λ (m : ℕ). Summed F value m s s) (sym e) first
+    where
+      first : Summed F value 0 s s
+      first = record { size = refl; sums = λ t l u. sym (⊕-zeros (sumIn s t) 16 (simp length-take (omega arith))); rest = refl }
+
+  pub summed-next : (before s s′ v : List ℕ) (k j : ℕ) → j ≡ k + 1 → v ≡ value j → Summed F value k before s
+      → Added (λ t. F .on (F .rowOfTag t) j) (F .tags) v s s′ → Summed F value j before s′
   unfolding rowSum sumOver
   summed-next before s s′ v k j ej ev H A = record {
     size = A .size ∙ H .size;
-    sums = λ t l u. A .sums t l u ∙ ap₂ (λ (x w : List ℕ). if F .on (rowOf t) j then x ⊕ w else x) (H .sums t l u) ev
-        ∙ subst (λ (m : ℕ). (if F .on (rowOf t) m then rowSum F value k (rowOf t) ⊕ value m else rowSum F value k (rowOf t)) ≡ rowSum F value m (rowOf t)) (sym (ej ∙ add-one k)) refl;
+    sums = λ t l u. A .sums t l u ∙ ap₂ (λ (x w : List ℕ). if F .on (F .rowOfTag t) j then x ⊕ w else x) (H .sums t l u) ev
+        ∙ grouped (F .on (F .rowOfTag t) j) (sumIn before t) (rowSum F value k (F .rowOfTag t)) (value j)
+        ∙ ap (λ (x : List ℕ). sumIn before t ⊕ x) (more t);
     rest = A .rest ∙ H .rest;
   }
+    where
+      grouped : (b : Bool) (x y z : List ℕ) → (if b then (x ⊕ y) ⊕ z else x ⊕ y) ≡ x ⊕ (if b then y ⊕ z else y)
+      grouped true x y z = ⊕-assoc x y z
+      grouped false x y z = refl
 
-  pub summed-as : (k m : ℕ) (before s : List ℕ) → k ≡ m → Holds n (λ t. rowSum F value k (rowOf t)) before s → Holds n (λ t. rowSum F value m (rowOf t)) before s
-  summed-as k m before s e H = subst (λ (x : ℕ). Holds n (λ t. rowSum F value x (rowOf t)) before s) e H
+      more : (t : ℕ)
+          → (if F .on (F .rowOfTag t) j then rowSum F value k (F .rowOfTag t) ⊕ value j else rowSum F value k (F .rowOfTag t)) ≡ rowSum F value j (F .rowOfTag t)
+      more t =
+          subst (λ (m : ℕ). (if F .on (F .rowOfTag t) m then rowSum F value k (F .rowOfTag t) ⊕ value m else rowSum F value k (F .rowOfTag t)) ≡ rowSum F value m (F .rowOfTag t)) (sym (ej ∙ add-one k)) refl
 
 -- with the hashes that a key made ready gives, all of them by now
-pub summed-ready : (F : Family) (n : ℕ) (rowOf : ℕ → ℕ) (key : List ℕ) (k : MacKey) (st : Stamp) (items : ℕ → List ℕ) (i m : ℕ) (before s : List ℕ) → k ≡ ready key → i ≡ m
-    → Holds n (λ t. rowSum F (λ j. itemHashBy (macWith k) st j (items j)) i (rowOf t)) before s → Holds n (λ t. rowSum F (λ j. itemHash key st j (items j)) m (rowOf t)) before s
-summed-ready F n rowOf key k st items i m before s ek e H =
-    summed-as F n rowOf (λ j. itemHash key st j (items j)) i m before s e
-    (subst (λ (v : ℕ → List ℕ). Holds n (λ t. rowSum F v i (rowOf t)) before s) (hashes-ready key k st items ek) H)
+pub summed-ready : (F : Family) (key : List ℕ) (k : MacKey) (st : Stamp) (items : ℕ → List ℕ) (i m : ℕ) (before s : List ℕ) → k ≡ ready key → i ≡ m
+    → Summed F (λ j. itemHashBy (macWith k) st j (items j)) i before s → Summed F (λ j. itemHash key st j (items j)) m before s
+summed-ready F key k st items i m before s ek e H =
+    subst (λ (x : ℕ). Summed F (λ j. itemHash key st j (items j)) x before s) e
+    (subst (λ (v : ℕ → List ℕ). Summed F v i before s) (hashes-ready key k st items ek) H)
+
+-- added to zeros, they are the sums
+module _ (n : ℕ) (f : ℕ → List ℕ) (before s : List ℕ) (z : (t : ℕ) → 1 ≤ t → t ≤ n → sumIn before t ≡ zeros 16) (l : (t : ℕ) → length (f t) ≡ 16) where
+  alone : (t : ℕ) → 1 ≤ t → t ≤ n → sumIn before t ⊕ f t ≡ f t
+  alone t a b = ap (λ (x : List ℕ). x ⊕ f t) (z t a b) ∙ ⊕-comm (zeros 16) (f t) ∙ ⊕-zeros (f t) 16 (omega (arith, l t))
+
+  pub summed-zeros : Holds n (λ t. sumIn before t ⊕ f t) before s → Holds n f before s
+  summed-zeros H = record { size = H .size; sums = λ t a b. H .sums t a b ∙ alone t a b; rest = H .rest }
+
+  pub zeros-summed : Holds n f before s → Holds n (λ t. sumIn before t ⊕ f t) before s
+  zeros-summed H = record { size = H .size; sums = λ t a b. H .sums t a b ∙ sym (alone t a b); rest = H .rest }
+
+-- a hash has 16 bytes, whatever the item, and so has a sum
+pub hashes-long : (K : Keys) → length (K .item) ≡ 16 → (st : Stamp) (items : ℕ → List ℕ) → Values (hashes K st items)
+unfolding hashes
+hashes-long K h st items j = itemHash-length (K .item) h st j (items j)
+
+pub tagSum-length : (keys : Keys) (st : Stamp) (c : ℕ) (items : ℕ → List ℕ) (n : ℕ) → length (keys .item) ≡ 16 → (k : ℕ) → length (tagSum keys st c items n k) ≡ 16
+unfolding tagSum rowSum
+tagSum-length keys st c items n h k = sum-length (familyOf c .on (familyOf c .rowOfTag k)) (hashes keys st items) n (hashes-long keys h st items)
 
 -- ---- the bytes of an item as the walk meets them
 

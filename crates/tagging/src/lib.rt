@@ -4,6 +4,7 @@ use blocks::block;
 use cipher::aes;
 use cipher::cmac;
 use cipher::cmac::MacKey;
+use cipher::engine::Tables;
 use files::message;
 use files::message::Cursor;
 use files::tagfile;
@@ -12,11 +13,11 @@ use stamp::Stamp;
 ghost use mathlib.Core.Path.{_≡_};
 ghost use mathlib.Core.Bool.{true};
 ghost use mathlib.Core.List.{_++_};
-ghost use Prim.Native.Nat.{ℕ, _*_, _≤_};
+ghost use Prim.Native.Nat.{_*_, _≤_};
 ghost use lib.ListN.{length, drop};
-ghost use Rattle.blocks.specs.Block.{zeros};
+ghost use Rattle.blocks.specs.Block.{_⊕_};
 ghost use Rattle.cipher.specs.Cmac.{macWith};
-ghost use Rattle.incidence.specs.Sum.{rowSum};
+ghost use Rattle.cipher.specs.Engine.{EngineTables};
 ghost use Rattle.sizes.specs.Sizes.{known, familyOf};
 ghost use Rattle.files.specs.Refusals.{none};
 ghost use Rattle.stamp.specs.Front.{versionOf};
@@ -24,7 +25,7 @@ ghost use Rattle.files.specs.Message.{itemsAt, itemCount, item, refuse5};
 ghost use Rattle.files.specs.TagFile.{fileSize};
 ghost use Rattle.keyed.specs.Keyed.{itemHashBy};
 ghost use Rattle.sums.specs.Adding.{sumIn, Holds, Added};
-ghost use Rattle.tagging.specs.Tagging.{keysIn, hashes, tagSum, fileOf, tagHead};
+ghost use Rattle.tagging.specs.Tagging.{keysIn, tagSum, fileOf, tagHead};
 
 // The three keys (document 01: card key, tag key, seal key).
 pub struct Keys {
@@ -58,59 +59,55 @@ pub fn head_for(code: u64, s: &[u8]) -> Head
     }
 }
 
-// Adds the hash of item j, under a key made ready, to the sums of its tagged rows; what is behind the sums stays.
-pub fn add_item(code: u64, k: MacKey, stamp: Stamp, sums: &mut [u8], j: usize, item: &[u8])
+// Adds the hash of item j, under a key made ready, to the sums of its tagged rows; what is behind the sums stays. The item is laid out in
+// room, whose bytes are of no account.
+pub fn add_item(
+    t: &Tables,
+    code: u64,
+    k: MacKey,
+    stamp: Stamp,
+    sums: &mut [u8],
+    j: usize,
+    item: &[u8],
+    room: &mut [u8],
+)
+    requires { ⌜ EngineTables (now t) ⌝ }
     requires { ⌜ known code ≡ true ⌝ }
     requires { ⌜ 16 * familyOf code .tags ≤ length (now sums) ⌝ }
-    ensures { λ _. ⌜ Added (λ t. familyOf code .on (familyOf code .rowOfTag t) j) (familyOf code .tags) (itemHashBy (macWith k) stamp j (now (item .entry))) (now (sums .entry)) (now (sums .exit)) ⌝ }
+    requires { ⌜ (length (now item) ≤ 1024) × (1040 ≤ length (now room)) ⌝ }
+    ensures added { λ _. ⌜ Added (λ t. familyOf code .on (familyOf code .rowOfTag t) j) (familyOf code .tags) (itemHashBy (macWith k) stamp j (now (item .entry))) (now (sums .entry)) (now (sums .exit)) ⌝ }
+    ensures room { λ _. ⌜ length (now (room .exit)) ≡ length (now (room .entry)) ⌝ }
 {
-    let hash = keyed::item_hash(k, stamp, j as u64, item);
+    let hash = keyed::item_hash(t, k, stamp, j as u64, item, room);
     sums::add_to_tags(code, sums, j, hash);
 }
 
-// Fills sums, which are zero, with those of the tags of a message that is not refused, its items hashed under this stamp; what is behind them stays.
-pub fn sum_tags(code: u64, keys: Keys, stamp: Stamp, s: &[u8], sums: &mut [u8])
+// Adds the hashes of the items of a message that is not refused, under this stamp, to the sums of their tagged rows; what is behind the sums
+// stays.
+pub fn add_items(t: &Tables, code: u64, keys: Keys, stamp: Stamp, s: &[u8], sums: &mut [u8])
+    requires { ⌜ EngineTables (now t) ⌝ }
     requires { ⌜ known code ≡ true ⌝ }
     requires { ⌜ (itemsAt (versionOf (now s)) ≤ length (now s)) × (length (now s) ≤ 65536) × (refuse5 (now s) ≡ none) ⌝ }
     requires { ⌜ 16 * familyOf code .tags ≤ length (now sums) ⌝ }
-    requires { ⌜ ((k : ℕ) → 1 ≤ k → k ≤ familyOf code .tags → sumIn (now sums) k ≡ zeros 16) ⌝ }
-    ensures { λ _. ⌜ Holds (familyOf code .tags) (tagSum keys stamp code (item (now (s .entry))) (itemCount (now (s .entry)))) (now (sums .entry)) (now (sums .exit)) ⌝ }
+    ensures { λ _. ⌜ Holds (familyOf code .tags) (λ k. sumIn (now (sums .entry)) k ⊕ tagSum keys stamp code (item (now (s .entry))) (itemCount (now (s .entry))) k) (now (sums .entry)) (now (sums .exit)) ⌝ }
 {
     let key = keys.item;
-    let k = cmac::prepare(key);
+    let k = cmac::prepare(t, key);
     let n = message::item_count(s);
+    let mut room = [0u8; keyed::ROOM];
     let mut c = Cursor::first(s);
     while c.passed < n {
         let start = c.at + 2;
         c = c.next(s);
         let end = c.at;
-        add_item(code, k, stamp, sums, c.passed, &s[start..end]);
-    }
-}
-
-// Fills sums, which are zero, with those of all rows of a message that is not refused, likewise; what is behind them stays.
-pub fn sum_rows(code: u64, keys: Keys, stamp: Stamp, s: &[u8], sums: &mut [u8])
-    requires { ⌜ (itemsAt (versionOf (now s)) ≤ length (now s)) × (length (now s) ≤ 65536) × (refuse5 (now s) ≡ none) ⌝ }
-    requires { ⌜ 16 * familyOf code .rows ≤ length (now sums) ⌝ }
-    requires { ⌜ ((i : ℕ) → 1 ≤ i → i ≤ familyOf code .rows → sumIn (now sums) i ≡ zeros 16) ⌝ }
-    ensures { λ _. ⌜ Holds (familyOf code .rows) (rowSum (familyOf code) (hashes keys stamp (item (now (s .entry)))) (itemCount (now (s .entry)))) (now (sums .entry)) (now (sums .exit)) ⌝ }
-{
-    let key = keys.item;
-    let k = cmac::prepare(key);
-    let n = message::item_count(s);
-    let mut c = Cursor::first(s);
-    while c.passed < n {
-        let start = c.at + 2;
-        c = c.next(s);
-        let end = c.at;
-        let hash = keyed::item_hash(k, stamp, c.passed as u64, &s[start..end]);
-        sums::add_to_rows(code, sums, c.passed, hash);
+        add_item(t, code, k, stamp, sums, c.passed, &s[start..end], &mut room);
     }
 }
 
 // Writes the tag file that says head before its tags, which are made of the sums at the front of sums, sealed, to the front of out; what is
 // behind it stays.
-pub fn write_file(head: Head, keys: Keys, sums: &[u8], out: &mut [u8])
+pub fn write_file(t: &Tables, head: Head, keys: Keys, sums: &[u8], out: &mut [u8])
+    requires { ⌜ EngineTables (now t) ⌝ }
     requires { ⌜ known (head .code) ≡ true ⌝ }
     requires { ⌜ head .count ≤ familyOf (head .code) .items ⌝ }
     requires { ⌜ (16 * familyOf (head .code) .tags ≤ length (now sums)) × (fileSize head ≤ length (now out)) ⌝ }
@@ -118,10 +115,10 @@ pub fn write_file(head: Head, keys: Keys, sums: &[u8], out: &mut [u8])
 {
     let stamp = head.stamp;
     let at = tagfile::tags_at(stamp.version);
-    let t = sizes::tags(head.code);
+    let n = sizes::tags(head.code);
     let tag_key = keys.tag;
     let seal_key = keys.seal;
     tagfile::put_header(out, head);
-    keyed::write_tags(aes::key_expansion(tag_key), sums, t, &mut out[at..]);
-    tagfile::seal(seal_key, out, at + 16 * t);
+    keyed::write_tags(t, aes::key_expansion(tag_key), sums, n, &mut out[at..]);
+    tagfile::seal(t, seal_key, out, at + 16 * n);
 }

@@ -1,4 +1,5 @@
 // Sheets of every version, each in 1,400 bytes that it is handed.
+use cipher::engine;
 use files::tagfile::Head;
 use stamp::Stamp;
 ghost use lib.ListN.{length};
@@ -8,6 +9,7 @@ ghost use Rattle.checks.specs.Passed.{Taggable};
 fn in_version(keys: &[u8], size: u64, shelf: &[u8], version: u16, room: [u8; 1400]) -> [u8; 1400]
     requires { ⌜ Taggable (now keys) size (now shelf) (length room) ⌝ }
 {
+    let t = engine::tables();
     let k = tagging::keys_in(keys);
     let newest = tagging::head_for(size, shelf);
     let own = newest.stamp;
@@ -16,14 +18,14 @@ fn in_version(keys: &[u8], size: u64, shelf: &[u8], version: u16, room: [u8; 140
         number: own.number,
     };
     let mut sums = [0u8; sums::TAGS_MOST];
-    tagging::sum_tags(size, k, stamp, shelf, &mut sums);
+    tagging::add_items(&t, size, k, stamp, shelf, &mut sums);
     let head = Head {
         stamp,
         code: size,
         count: newest.count,
     };
     let mut out = room;
-    tagging::write_file(head, k, &sums, &mut out);
+    tagging::write_file(&t, head, k, &sums, &mut out);
     out
 }
 

@@ -4,6 +4,7 @@
 use blocks::block;
 use cipher::aes;
 use cipher::cmac;
+use cipher::engine;
 ghost use Prim.Native.Nat.{_≤_};
 ghost use lib.ListN.{length};
 
@@ -97,7 +98,8 @@ fn fips_197() {
 }
 
 fn subkeys() {
-    let key = cmac::prepare(KEY);
+    let t = engine::tables();
+    let key = cmac::prepare(&t, KEY);
     line(
         b"RFC 4493 AES-128(key,0)",
         &aes::encipher(KEY, [0u8; 16]),
@@ -115,23 +117,21 @@ fn examples() {
     line(b"RFC 4493 Example 4", &cmac::cmac(KEY, &m[0..64]), &MAC_64);
 }
 
-// Prints the line of an example whose message is handed over in two parts.
-fn in_parts(name: &[u8], m: &[u8], cut: usize, mac: [u8; 16])
-    requires { ⌜ cut ≤ length (now m) ⌝ }
+// Prints the line of an example whose message, the first n bytes, is laid out where it stands.
+fn in_place(name: &[u8], n: usize, mac: [u8; 16])
+    requires { ⌜ n ≤ 64 ⌝ }
 {
-    let result = cmac::cmac_of_parts(KEY, &m[0..cut], &m[cut..]);
+    let t = engine::tables();
+    let mut m = MESSAGE;
+    let result = cmac::mac_in_place(&t, cmac::prepare(&t, KEY), &mut m, n);
     line(name, &result, &mac);
 }
 
-fn examples_in_parts() {
-    let m = MESSAGE;
-    in_parts(b"RFC 4493 Example 1 as 0 + 0", &m[0..0], 0, MAC_0);
-    in_parts(b"RFC 4493 Example 2 as 8 + 8", &m[0..16], 8, MAC_16);
-    in_parts(b"RFC 4493 Example 3 as 8 + 32", &m[0..40], 8, MAC_40);
-    in_parts(b"RFC 4493 Example 3 as 33 + 7", &m[0..40], 33, MAC_40);
-    in_parts(b"RFC 4493 Example 4 as 8 + 56", &m[0..64], 8, MAC_64);
-    in_parts(b"RFC 4493 Example 4 as 16 + 48", &m[0..64], 16, MAC_64);
-    in_parts(b"RFC 4493 Example 4 as 64 + 0", &m[0..64], 64, MAC_64);
+fn examples_in_place() {
+    in_place(b"RFC 4493 Example 1 in place", 0, MAC_0);
+    in_place(b"RFC 4493 Example 2 in place", 16, MAC_16);
+    in_place(b"RFC 4493 Example 3 in place", 40, MAC_40);
+    in_place(b"RFC 4493 Example 4 in place", 64, MAC_64);
 }
 
 fn bench_cards() {
@@ -176,7 +176,7 @@ fn main() {
     fips_197();
     subkeys();
     examples();
-    examples_in_parts();
+    examples_in_place();
     bench_cards();
     by_the_plain_engine();
 }

@@ -10,4 +10,4 @@ pub check-seal-spec : {M : Type 1} → statement M
 unfolding keysIn slot
 check-seal-spec =
     tie.close
-    (tie.spec (λ c κs. omega (arith, keys-long _ (c .before .before .pre .0))) (λ c κs. search needs) (λ c. cc))
+    (tie.spec (λ c κs. omega (arith, keys-long _ (c .before .before .pre .1 .0))) (λ c κs. search needs) (λ c. cc))

@@ -10,5 +10,5 @@ unfolding replaceRefusal
 replace-refusal-spec =
     tie.close
     (tie.spec (search needs) (search needs) (search needs) (λ c. rw run2 (stop _ _ _ (search listed depth 12) (c .if1 .taken)))
-    (λ c κs. (search passes1, search passes2)) (λ c κs. search passes2) (search needs) (search needs) (λ c κs. search passes2)
+    (λ c κs. (search needs, (search passes1, search passes2))) (λ c κs. search passes2) (search needs) (search needs) (λ c κs. search passes2)
     (search needs) (λ c. rw run2 (search listed depth 12)))

@@ -32,7 +32,7 @@ verify-refusal-spec =
     (tie.spec (search needs) (search needs) (search needs) (λ c. rw run2 (stop _ _ _ (search listed depth 12) (c .if1 .taken)))
     (λ c κs. search passes2) (search needs) (search needs)
     (λ c. rw (run2, run3) (stop _ _ _ (search listed depth 12) (c .if2 .taken)))
-    (λ c κs. (search passes1, passes3 _ _ _ _ _ _ (c .before .before .before .check .ensures) (c .before .before .first3 .ensures) (c .if2 .left)))
+    (λ c κs. (search needs, (search passes1, passes3 _ _ _ _ _ _ (c .before .before .before .check .ensures) (c .before .before .first3 .ensures) (c .if2 .left))))
     (λ c κs. (search passes2, passes3 _ _ _ _ _ _ (c .before .before .before .before .check .ensures) (c .before .before .before .first3 .ensures) (c .before .if2 .left)))
     (λ c κs. (search passes2, passes3 _ _ _ _ _ _ (c .before .before .before .before .before .check .ensures) (c .before .before .before .before .first3 .ensures) (c .before .before .if2 .left)))
     (search needs) returns-3)

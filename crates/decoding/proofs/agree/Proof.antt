@@ -1,6 +1,6 @@
--- The two sums, compared.
-use Rattle.fips197.proofs.Kit.{ap₂, _∙_, needs}
-use Rattle.blocks.specs.Block.{same, slot}
+-- The difference, looked at.
+use Rattle.fips197.proofs.Kit.{needs}
+use Rattle.blocks.specs.Block.{slot}
 use Rattle.sums.specs.Adding.{sumIn}
 use Rattle.decoding.specs.Decoding.{agreesIn}
 use Rattle.decoding.proofs.agree.Statement.{statement}
@@ -8,9 +8,7 @@ use Rattle.decoding.proofs.agree.Tie as tie
 
 returns : tie.Need-returns
 unfolding agreesIn sumIn slot
-returns c = c .equal .ensures ∙ ap₂ same (c .before .before .block-at .ensures) (c .before .block-at2 .ensures)
+returns c = c .is-zero .ensures
 
 pub agree-spec : {M : Type 1} → statement M
-agree-spec =
-    tie.close
-    (tie.spec (λ c. search needs) (λ c. search needs) (λ c κs. search needs) (λ c κs. search needs) (λ c κs. search needs) returns)
+agree-spec = tie.close (tie.spec (λ c. search needs) (λ c. search needs) (λ c κs. search needs) returns)

@@ -7,26 +7,26 @@ use Rattle.decoding.proofs.clear_agreeing.Statement.{statement}
 use Rattle.decoding.proofs.clear_agreeing.Tie as tie
 
 abbrev Inv-loop : tie.InvT-loop
-Inv-loop code n a b marks₀ last others₀ i₀ marks others i = (last ≡ familyOf code .rows) × (i ≤ last) × Compared (familyOf code) (agreesIn a b) n marks₀ marks others i
+Inv-loop code n d marks₀ last others₀ i₀ marks others i = (last ≡ familyOf code .rows) × (i ≤ last) × Compared (familyOf code) (agreesIn d) n marks₀ marks others i
 
 abbrev μ-loop : tie.MeasureT-loop
-μ-loop code n a b marks₀ last others₀ i₀ marks others i = last - i
+μ-loop code n d marks₀ last others₀ i₀ marks others i = last - i
 
 loop-holds : tie.Need-loop-holds Inv-loop μ-loop
 loop-holds c =
-    let d = c .before .before .before .before in
-    (c .rows .ensures, omega arith, compared-first (familyOf (d .args .code)) (agreesIn (d .args .a .now) (d .args .b .now)) _ _)
+    let d = c .before .before .before in
+    (c .rows .ensures, omega arith, compared-first (familyOf (d .args .code)) (agreesIn (d .args .d .now)) _ _)
 
 agree-requires : tie.Need-agree-requires Inv-loop μ-loop
 agree-requires c κs =
     let l = c .before in
-    let d = l .before .before .before .before .before in
-    (omega arith, omega (arith, l .loop .inv .0, d .pre .1 .0), omega (arith, l .loop .inv .0, d .pre .1 .1))
+    let d = l .before .before .before .before in
+    (omega arith, omega (arith, l .loop .inv .0, d .pre .1))
 
 clear-row-requires : tie.Need-clear-row-requires Inv-loop μ-loop
 clear-row-requires c κs =
     let l = c .before .before .before .before in
-    let d = l .before .before .before .before .before in
+    let d = l .before .before .before .before in
     (d .pre .0 .0, omega (arith, d .pre .0 .1, l .loop .inv .2 .items .size))
 
 loop-again : tie.Need-loop-again Inv-loop μ-loop

@@ -3,29 +3,27 @@ use Rattle.fips197.proofs.Kit.{_∙_, needs}
 use Rattle.incidence.specs.Report.{named}
 use Rattle.sizes.specs.Sizes.{familyOf}
 use Rattle.decoding.specs.Decoding.{agreesIn}
-use Rattle.decoding.proofs.Marks.{named-marked, count-is, unexplained-is, answer-is, marked-list}
+use Rattle.decoding.proofs.Marks.{named-marked, count-is, answer-is, marked-list}
 use Rattle.decoding.proofs.decode.Statement.{statement}
 use Rattle.decoding.proofs.decode.Tie as tie
 
 returns : tie.Need-returns
 returns c =
-    let s = c .before .before in
-    let n = s .before .before in
+    let n = c .before .before in
     let g = n .before .before .before .before in
     let m = g .before .before .before .before in
-    let d = m .before .before .before .before .before in
-    let F = familyOf (d .args .code) in
-    let agrees = agreesIn (d .args .a .now) (d .args .b .now) in
+    let s = m .before .before .before .before in
+    let F = familyOf (s .args .code) in
+    let agrees = agreesIn (s .args .d .now) in
     let all = m .mark-all .ensures in
     let clears = g .clear-agreeing .ensures .0 in
     let rows = g .clear-agreeing .ensures .1 in
     let names = n .count-named .ensures ∙ count-is F agrees all clears in
-    let found = s .find-unexplained .ensures ∙ unexplained-is F agrees all clears in
-    let written = marked-list (named F agrees) (d .args .n) _ _ (named-marked F agrees all clears) (d .pre .0 .1) in
-    (written, (c .choose .ensures ∙ answer-is F agrees (d .args .n) _ _ _ _ (c .before .limit .ensures) rows names found, (names, rows)))
+    let written = marked-list (named F agrees) (s .args .n) _ _ (named-marked F agrees all clears) (s .pre .0 .1) in
+    (written, (c .choose .ensures ∙ answer-is F agrees all clears _ _ rows names, (names, rows)))
 
 pub decode-spec : {M : Type 1} → statement M
 decode-spec =
     tie.close
-    (tie.spec (λ c κs. search needs) (λ c κs. search needs) (λ c κs. search needs) (λ c κs. search needs) (λ c κs. search needs)
-    (λ c κs. search needs) (λ c. search needs) returns)
+    (tie.spec (λ c κs. search needs) (λ c κs. search needs) (λ c κs. search needs) (λ c κs. search needs) (λ c. search needs)
+    returns)

@@ -9,10 +9,10 @@ use Rattle.decoding.proofs.find_unexplained.Statement.{statement}
 use Rattle.decoding.proofs.find_unexplained.Tie as tie
 
 abbrev Inv-loop : tie.InvT-loop
-Inv-loop code n a b marks rows i₀ i = (i ≤ rows) × (anyUpTo (unexplainedIn (familyOf code) (agreesIn a b) marks n) i ≡ false)
+Inv-loop code n d marks rows i₀ i = (i ≤ rows) × (anyUpTo (unexplainedIn (familyOf code) (agreesIn d) marks n) i ≡ false)
 
 abbrev μ-loop : tie.MeasureT-loop
-μ-loop code n a b marks rows i₀ i = rows - i
+μ-loop code n d marks rows i₀ i = rows - i
 
 loop-holds : tie.Need-loop-holds Inv-loop μ-loop
 loop-holds c = (omega arith, refl)
@@ -20,31 +20,31 @@ loop-holds c = (omega arith, refl)
 is-unexplained-requires : tie.Need-is-unexplained-requires Inv-loop μ-loop
 is-unexplained-requires c κs =
     let l = c .before in
-    let d = l .before .before .before .before .before in
-    (d .pre .0, (omega arith, omega (arith, l .before .rows .ensures, d .pre .1 .0), omega (arith, l .before .rows .ensures, d .pre .1 .1)))
+    let d = l .before .before .before .before in
+    (d .pre .0, (omega arith, omega (arith, l .before .rows .ensures, d .pre .1)))
 
 returns : tie.Need-returns Inv-loop μ-loop
 returns c =
     let l = c .before .before .before in
-    let d = l .before .before .before .before .before in
-    sym (any-some (unexplainedIn (familyOf (d .args .code)) (agreesIn (d .args .a .now) (d .args .b .now)) (d .args .marks .now) (d .args .n)) (familyOf (d .args .code) .rows) (l .loop .i + 1) (omega arith)
+    let d = l .before .before .before .before in
+    sym (any-some (unexplainedIn (familyOf (d .args .code)) (agreesIn (d .args .d .now)) (d .args .marks .now) (d .args .n)) (familyOf (d .args .code) .rows) (l .loop .i + 1) (omega arith)
     (omega (arith, l .before .rows .ensures)) (sym (c .before .is-unexplained .ensures) ∙ c .if1 .taken))
 
 loop-again : tie.Need-loop-again Inv-loop μ-loop
 loop-again c =
     let l = c .before .before .before in
-    let d = l .before .before .before .before .before in (
+    let d = l .before .before .before .before in (
       omega arith,
-      any-fails (unexplainedIn (familyOf (d .args .code)) (agreesIn (d .args .a .now) (d .args .b .now)) (d .args .marks .now) (d .args .n)) (l .loop .i) (l .loop .inv .1)
+      any-fails (unexplainedIn (familyOf (d .args .code)) (agreesIn (d .args .d .now)) (d .args .marks .now) (d .args .n)) (l .loop .i) (l .loop .inv .1)
           (sym (c .before .is-unexplained .ensures) ∙ c .if1 .left),
     )
 
 returns-2 : tie.Need-returns-2 Inv-loop μ-loop
 returns-2 c =
     let l = c .before in
-    let d = l .before .before .before .before .before in
+    let d = l .before .before .before .before in
     let e : l .loop .i ≡ familyOf (d .args .code) .rows = omega (arith, l .before .rows .ensures) in
-    sym (l .loop .inv .1) ∙ ap (anyUpTo (unexplainedIn (familyOf (d .args .code)) (agreesIn (d .args .a .now) (d .args .b .now)) (d .args .marks .now) (d .args .n))) e
+    sym (l .loop .inv .1) ∙ ap (anyUpTo (unexplainedIn (familyOf (d .args .code)) (agreesIn (d .args .d .now)) (d .args .marks .now) (d .args .n))) e
 
 pub find-unexplained-spec : {M : Type 1} → statement M
 find-unexplained-spec =

@@ -12,7 +12,7 @@ returns c = ap₂ _&&_ (sym (c .before .if1 .taken) ∙ ap not (c .before .befor
 returns-2 : tie.Need-returns-2
 unfolding unexplainedIn
 returns-2 c =
-    let d = c .before .before .before .before .before in
+    let d = c .before .before .before .before in
     c .if1 .left ∙ ap (λ (t : Bool). t && not (holdsMarked (familyOf (d .args .code)) (d .args .marks .now) (d .args .n) (d .args .i))) (sym (c .if1 .left) ∙ ap not (c .before .agree .ensures))
 
 pub is-unexplained-spec : {M : Type 1} → statement M

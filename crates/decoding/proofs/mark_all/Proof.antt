@@ -6,10 +6,10 @@ use Rattle.decoding.proofs.mark_all.Statement.{statement}
 use Rattle.decoding.proofs.mark_all.Tie as tie
 
 abbrev Inv-loop : tie.InvT-loop
-Inv-loop marks₀ n i₀ marks i = (i ≤ n) × Marked i (λ j. 1) marks₀ marks
+Inv-loop marks₀ n mark i₀ marks i = (i ≤ n) × Marked i (λ j. mark) marks₀ marks
 
 abbrev μ-loop : tie.MeasureT-loop
-μ-loop marks₀ n i₀ marks i = n - i
+μ-loop marks₀ n mark i₀ marks i = n - i
 
 loop-holds : tie.Need-loop-holds Inv-loop μ-loop
 loop-holds c = (omega arith, marked-first _ _)
@@ -20,7 +20,7 @@ slice-write-marks c = omega (arith, c .before .loop .inv .1 .size)
 loop-again : tie.Need-loop-again Inv-loop μ-loop
 loop-again c =
     let l = c .before .loop in
-    (omega arith, marked-next (λ j. 1) _ (l .marks) (l .i) (l .inv .1) (omega (arith, l .inv .1 .size)))
+    (omega arith, marked-next (λ j. _) _ (l .marks) (l .i) (l .inv .1) (omega (arith, l .inv .1 .size)))
 
 returns : tie.Need-returns Inv-loop μ-loop
 returns c =

@@ -12,7 +12,7 @@ returns c =
     let z = b .before .before in
     let d = z .before .before .before in
     let hw : length (d .args .w) ≡ 176 = search needs in
-    sums-code (d .args .w) _ _ _ _ _ _ (d .args .n) hw (d .pre .0) _ (z .mask-zero .ensures) (b .copy-blocks .ensures) (a .add-masks .ensures)
+    sums-code (d .args .w) _ _ _ _ _ _ (d .args .n) hw (d .pre .1 .0) _ (z .mask-zero .ensures) (b .copy-blocks .ensures) (a .add-masks .ensures)
     (c .before .before .add-masks2 .ensures) (e .decipher-blocks .ensures)
 
 pub write-sums-spec : {M : Type 1} → statement M

@@ -22,14 +22,14 @@ tags-read : (c : tie.After-tags-in) → length (c .tags-in .result .now) ≡ 16 
 tags-read c =
     let t = c .before .before in
     let d = t .before .before .before .before .before in
-    ap length (c .tags-in .ensures) ∙ tags-long (d .args .f .now) (d .pre .0) ∙ ap (λ (n : ℕ). 16 * n) (sym (tags-are t))
+    ap length (c .tags-in .ensures) ∙ tags-long (d .args .f .now) (d .pre .1 .0) ∙ ap (λ (n : ℕ). 16 * n) (sym (tags-are t))
 
 write-sums-requires : tie.Need-write-sums-requires
 write-sums-requires c κs =
     let g = c .before in
     let t = g .before .before in
     let d = t .before .before .before .before .before in
-    (omega (arith, tags-read g), omega (arith, tags-are t, d .pre .1))
+    (d .pre .0, (omega (arith, tags-read g), omega (arith, tags-are t, d .pre .1 .1)))
 
 returns : tie.Need-returns
 unfolding sumTagged
@@ -37,7 +37,7 @@ returns c =
     let g = c .before .before .before .before in
     let t = g .before .before in
     let d = t .before .before .before .before .before in
-    sums-read (d .args .keys .tag) (d .args .f .now) (g .tags-in .result .now) (d .args .sums .now) _ _ (key-long d) (g .tags-in .ensures) (tags-are t) (omega (arith, tags-are t, d .pre .1))
+    sums-read (d .args .keys .tag) (d .args .f .now) (g .tags-in .result .now) (d .args .sums .now) _ _ (key-long d) (g .tags-in .ensures) (tags-are t) (omega (arith, tags-are t, d .pre .1 .1))
     (sums-expanded (d .args .keys .tag) _ _ _ _ _ (g .before .key-expansion .ensures) (c .before .before .write-sums .ensures))
 
 pub read-sums-spec : {M : Type 1} → statement M

@@ -16,18 +16,18 @@ returns c =
     (e, (kept _ _ e _ _ t, (kept _ _ e _ _ t, (kept _ _ e _ _ t, (kept _ _ e _ _ t, λ z. absurd (t z))))))
 
 decode-files-requires : tie.Need-decode-files-requires
-decode-files-requires c κs = reportable _ _ _ _ _ (c .before .before .before .report-refusal .ensures) (c .before .if1 .left)
+decode-files-requires c κs = (search needs, reportable _ _ _ _ _ (c .before .before .before .before .report-refusal .ensures) (c .before .before .if1 .left))
 
 returns-2 : tie.Need-returns-2
 unfolding reportWrites reportAnswer reportNamed reportRows
 returns-2 c =
-    let r = c .before .before .before .before .before .before in
-    let d = r .before .before .before .before .before in
+    let r = c .before .before .before .before .before .before .before in
+    let d = r .before .before .before .before .before .before .before in
     let e = r .report-refusal .ensures in
-    let t = c .before .before .before .before .if1 .left in
+    let t = c .before .before .before .before .before .if1 .left in
     let f = c .before .before .decode-files .ensures in
     let p = reportable (d .args .keys .now) (d .args .message .now) (d .args .file .now) (length (d .args .marks .now)) _ e t in
-    let b = bytes-from (d .args .keys .now) (λ i l. omega (arith, r .before .before .before .before .shared-slice-known .given i)) in (
+    let b = bytes-from (d .args .keys .now) (λ i l. omega (arith, r .before .before .before .before .before .before .shared-slice-known .given i)) in (
       e,
       (
         f .0 ∙ given _ _ e _ _ t,
@@ -45,4 +45,4 @@ returns-2 c =
     )
 
 pub report-spec : {M : Type 1} → statement M
-report-spec = tie.close (tie.spec (λ c κs. search needs) returns decode-files-requires (λ c. search needs) returns-2)
+report-spec = tie.close (tie.spec (λ c κs. search needs) (λ c κs. search needs) returns decode-files-requires (λ c. search needs) returns-2)

@@ -6,11 +6,13 @@ use Rattle.sizes.proofs.Laws.{tags-few}
 use Rattle.stamp.specs.Front.{versionOf, stampOf}
 use Rattle.files.specs.declared.tagfile.Head.{Head}
 use Rattle.files.specs.TagFile.{codeOf, headOf}
+use Rattle.files.specs.Message.{itemCount, item}
 use Rattle.checks.proofs.Checking.{file-code}
 use Rattle.keyed.proofs.KeyedLaws.{tags-expanded}
-use Rattle.tagging.proofs.Summing.{zero-sums}
+use Rattle.tagging.specs.Tagging.{tagSum}
+use Rattle.tagging.proofs.Summing.{zero-sums, summed-zeros, tagSum-length}
 use Rattle.scheme.specs.Calls.{stampIn}
-use Rattle.scheme.proofs.Filing.{same-is, written-long, tags-written, tag-key-long}
+use Rattle.scheme.proofs.Filing.{same-is, written-long, tags-written, tag-key-long, item-key-long}
 use Rattle.scheme.proofs.tags_equal.Statement.{statement}
 use Rattle.scheme.proofs.tags_equal.Tie as tie
 
@@ -31,19 +33,16 @@ stamp-is c =
     let d = h .before .before .before .before .before .before in
     c .stamp-in .ensures ∙ ap (λ (x : Head). stampIn (x .stamp .version) (d .args .s .now)) (h .head-of .ensures .0)
 
-sum-tags-requires : tie.Need-sum-tags-requires
-sum-tags-requires c κs =
+add-items-requires : tie.Need-add-items-requires
+add-items-requires c κs =
     let t = c .before .before in
     let h = t .before .before in
     let p = h .before .before .before .before .before .before .pre in
-    let w : 16 * familyOf (h .head-of .result .code) .tags ≤ 1312 = omega (arith, few t, t .tags .ensures) in (
-      ap known (code-is h) ∙ file-code _ (p .file),
-      ((p .message .long, p .message .short, p .message .whole), (w, λ k l u. zero-sums 1312 k l (omega arith))),
-    )
+    (p .0, (ap known (code-is h) ∙ file-code _ (p .1 .file), ((p .1 .message .long, p .1 .message .short, p .1 .message .whole), omega (arith, few t, t .tags .ensures))))
 
 -- the tags written
 module _ (c : tie.After-write-tags) where
-  abbrev summed : tie.After-sum-tags
+  abbrev summed : tie.After-add-items
   summed = c .before .before .before .before .before
 
   abbrev counted : tie.After-tags
@@ -53,13 +52,13 @@ module _ (c : tie.After-write-tags) where
   keyed = counted .before .before .before .before
 
   key-long : length (keyed .keys-in .result .tag) ≡ 16
-  key-long = tag-key-long (keyed .keys-in .result) _ (keyed .keys-in .ensures) (keyed .before .before .before .before .pre .keys48)
+  key-long = tag-key-long (keyed .keys-in .result) _ (keyed .keys-in .ensures) (keyed .before .before .before .before .pre .1 .keys48)
 
 write-tags-requires : tie.Need-write-tags-requires
 write-tags-requires c κs =
     let s = c .before .before .before .before in
     let t = s .before .before .before in
-    (omega (arith, few t, s .sum-tags .ensures .size), few t)
+    (t .before .before .before .before .before .before .before .before .pre .0, (omega (arith, few t, s .add-items .ensures .size), few t))
 
 part-same-end : tie.Need-part-same-end
 part-same-end c =
@@ -70,7 +69,7 @@ part-same-end c =
 tags-in-requires : tie.Need-tags-in-requires
 tags-in-requires c κs =
     let d = keyed (c .before .before .before) .before .before .before .before in
-    d .pre .file .long
+    d .pre .1 .file .long
 
 returns : tie.Need-returns
 returns c =
@@ -79,14 +78,20 @@ returns c =
     let k = keyed w in
     let d = k .before .before .before .before in
     let e = tags-expanded (k .keys-in .result .tag) _ _ _ _ _ (w .before .before .before .key-expansion .ensures) (w .write-tags .ensures) in
+    let g = t .before .before .head-of .result in
+    let st = summed w .before .before .stamp-in .result in
+    let sums = summed-zeros (familyOf (g .code) .tags) (tagSum (k .keys-in .result) st (g .code) (item (d .args .s .now)) (itemCount (d .args .s .now))) _ _
+    (λ i l u. zero-sums 1312 i l (omega (arith, few t, t .tags .ensures)))
+    (tagSum-length (k .keys-in .result) st (g .code) (item (d .args .s .now)) (itemCount (d .args .s .now)) (item-key-long (k .keys-in .result) _ (k .keys-in .ensures) (d .pre .1 .keys48)))
+    (summed w .add-items .ensures) in
     same-is _ _ _ (c .same .ensures .0) (c .same .ensures .1)
     ∙ ap₂ same
-    (tags-written (k .keys-in .result) _ (d .args .s .now) (d .args .f .now) _ _ _ _ _ _ _ _ (key-long w) (k .keys-in .ensures) (stamp-is (summed w .before .before)) (code-is (t .before .before)) (t .tags .ensures) refl (summed w .sum-tags .ensures) e)
+    (tags-written (k .keys-in .result) _ (d .args .s .now) (d .args .f .now) _ _ _ _ _ _ _ _ (key-long w) (k .keys-in .ensures) (stamp-is (summed w .before .before)) (code-is (t .before .before)) (t .tags .ensures) refl sums e)
     (c .before .tags-in .ensures)
 
 pub tags-equal-spec : {M : Type 1} → statement M
 tags-equal-spec =
     tie.close
     (tie.spec (λ c κs. search needs) (λ c κs. search needs) (λ c κs. search needs) (λ c. omega (arith, few c)) (λ c κs. search needs)
-    (λ c. search needs) sum-tags-requires (λ c κs. search needs) (λ c. search needs) (λ c. search needs) write-tags-requires
+    (λ c. search needs) add-items-requires (λ c κs. search needs) (λ c. search needs) (λ c. search needs) write-tags-requires
     (λ c. search needs) (λ c. search needs) part-same-end tags-in-requires (λ c κs. search needs) returns)

@@ -5,16 +5,16 @@ use Rattle.sizes.proofs.Laws.{tags-few}
 use Rattle.files.specs.declared.tagfile.Head.{Head}
 use Rattle.files.specs.Message.{itemCount, item}
 use Rattle.files.specs.TagFile.{fileSize}
-use Rattle.tagging.specs.Tagging.{tagHead}
-use Rattle.tagging.proofs.Summing.{zero-sums}
-use Rattle.scheme.proofs.Filing.{tag-file-made}
+use Rattle.tagging.specs.Tagging.{tagSum, tagHead}
+use Rattle.tagging.proofs.Summing.{zero-sums, summed-zeros, tagSum-length}
+use Rattle.scheme.proofs.Filing.{tag-file-made, item-key-long}
 use Rattle.scheme.proofs.write_tag_file.Statement.{statement}
 use Rattle.scheme.proofs.write_tag_file.Tie as tie
 
 -- the head made is Tag's
 module _ (c : tie.After-head-for) where
   abbrev start : tie.Start
-  start = c .before .before .before .before .before
+  start = c .before .before .before .before .before .before
 
   code-is : c .head-for .result .code ≡ start .args .code
   unfolding tagHead
@@ -30,21 +30,24 @@ module _ (c : tie.After-head-for) where
   few : 16 * familyOf (c .head-for .result .code) .tags ≤ 1312
   few = omega (arith, tags-few (c .head-for .result .code))
 
-sum-tags-requires : tie.Need-sum-tags-requires
-sum-tags-requires c κs =
-    let h = c .before in
+add-items-requires : tie.Need-add-items-requires
+add-items-requires c κs =
+    let h = c .before .before in
     let m = start h .pre .message in
-    (code-known h, ((m .long, m .short, m .whole), (few h, λ k l u. zero-sums 1312 k l (omega (arith, few h)))))
+    (h .before .before .tables .ensures, (code-known h, ((m .long, m .short, m .whole), few h)))
 
 write-file-requires : tie.Need-write-file-requires
 write-file-requires c κs =
-    let s = c .before .before .before in
-    let h = s .before .before in
+    let s = c .before .before .before .before in
+    let h = s .before .before .before in
     let p = start h .pre in (
-      code-known h,
+      h .before .before .tables .ensures,
       (
-        omega (arith, count-is h, p .high, ap (λ (x : ℕ). familyOf x .items) (code-is h)),
-        (omega (arith, few h, s .sum-tags .ensures .size), omega (arith, p .fits, ap fileSize (h .head-for .ensures))),
+        code-known h,
+        (
+          omega (arith, count-is h, p .high, ap (λ (x : ℕ). familyOf x .items) (code-is h)),
+          (omega (arith, few h, s .add-items .ensures .size), omega (arith, p .fits, ap fileSize (h .head-for .ensures))),
+        ),
       ),
     )
 
@@ -52,13 +55,18 @@ returns : tie.Need-returns
 unfolding tagHead
 returns c =
     let w = c .before .before in
-    let s = w .before .before .before .before in
-    let h = s .before .before in
+    let s = w .before .before .before .before .before in
+    let h = s .before .before .before in
     let d = start h in
-    tag-file-made _ _ (h .head-for .result) (tagHead (d .args .code) (d .args .s .now)) (item (d .args .s .now)) _ _ (d .args .out .now) _ (h .before .keys-in .ensures) (h .head-for .ensures) (s .sum-tags .ensures) (w .write-file .ensures)
+    let k = h .before .keys-in .result in
+    let g = h .head-for .result in
+    let sums = summed-zeros (familyOf (g .code) .tags) (tagSum k (g .stamp) (g .code) (item (d .args .s .now)) (itemCount (d .args .s .now))) _ _
+    (λ t l u. zero-sums 1312 t l (omega (arith, few h))) (tagSum-length k (g .stamp) (g .code) (item (d .args .s .now)) (itemCount (d .args .s .now)) (item-key-long k _ (h .before .keys-in .ensures) (d .pre .keys48)))
+    (s .add-items .ensures) in
+    tag-file-made _ _ g (tagHead (d .args .code) (d .args .s .now)) (item (d .args .s .now)) _ _ (d .args .out .now) _ (h .before .keys-in .ensures) (h .head-for .ensures) sums (w .write-file .ensures)
 
 pub write-tag-file-spec : {M : Type 1} → statement M
 write-tag-file-spec =
     tie.close
-    (tie.spec (λ c κs. search needs) (λ c κs. search needs) (λ c. search needs) sum-tags-requires (λ c. search needs)
+    (tie.spec (λ c κs. search needs) (λ c κs. search needs) (λ c κs. search needs) (λ c. search needs) add-items-requires (λ c. search needs)
     write-file-requires (λ c. search needs) returns)

@@ -18,7 +18,7 @@ module _ (c : tie.After-tags) where
   place = c .before .tags-at .result
 
   room : place + 16 * c .tags .result + 16 ≤ length (begun .args .out .now)
-  room = omega (arith, file-size (begun .args .head) place _ (c .before .tags-at .ensures .0) (c .tags .ensures), begun .pre .1 .1 .1)
+  room = omega (arith, file-size (begun .args .head) place _ (c .before .tags-at .ensures .0) (c .tags .ensures), begun .pre .1 .1 .1 .1)
 
   few : (c .tags .result ≤ 82) × (place ≤ 12)
   few = (omega (arith, c .tags .ensures, tags-few (begun .args .head .code)), c .before .tags-at .ensures .1)
@@ -38,7 +38,7 @@ put-header-requires : tie.Need-put-header-requires
 put-header-requires c κs =
     let t = c .before .before .before in
     let d = begun t in
-    (omega (arith, code-byte (d .args .head .code) (d .pre .0)), omega (arith, items-few (d .args .head .code), d .pre .1 .0), omega (arith, room t, t .before .tags-at .ensures .0))
+    (omega (arith, code-byte (d .args .head .code) (d .pre .1 .0)), omega (arith, items-few (d .args .head .code), d .pre .1 .1 .0), omega (arith, room t, t .before .tags-at .ensures .0))
 
 -- the header and the tags behind it
 module _ (c : tie.After-write-tags) where
@@ -58,7 +58,7 @@ module _ (c : tie.After-write-tags) where
   key-long = search needs
 
   written :
-      putMid (place made) (length (at .put-header .last .0) - place made) (at .put-header .last .0) (c .write-tags .last .1 .1 .1 .0)
+      putMid (place made) (length (at .put-header .last .0) - place made) (at .put-header .last .0) (c .write-tags .last .1 .1 .1 .1 .0)
       ≡ take (place made) (at .put-header .last .0) ++ (tags ++ drop (place made + 16 * made .tags .result) (at .put-header .last .0))
   written =
       part-back (at .put-header .last .0) _ tags (place made) (16 * made .tags .result) (omega (arith, behind at))
@@ -70,7 +70,7 @@ seal-requires c κs =
     let a = at w in
     let r : place (made w) + 16 * made w .tags .result ≤ length (a .put-header .last .0) = omega (arith, behind a) in
     let l = back-length (a .put-header .last .0) _ (tags w) (place (made w)) _ r (tags-length _ _ _ (key-long w)) (written w) in
-    omega (arith, l, behind a)
+    (start w .pre .0, omega (arith, l, behind a))
 
 returns : tie.Need-returns
 returns c =
@@ -87,7 +87,7 @@ write-file-spec =
     (tie.spec (λ c κs. search needs) (λ c κs. search needs) put-header-requires (λ c κs. search needs)
     (λ c. omega (arith, behind (c .before .before .before))) (λ c. omega (arith, behind (c .before .before .before)))
     (λ c. search needs)
-    (λ c κs. (search needs, simp (length-take, length-drop) (omega (arith, behind (c .before .before .before .before)))))
+    (λ c κs. (search needs, (search needs, simp (length-take, length-drop) (omega (arith, behind (c .before .before .before .before))))))
     (λ c. omega (arith, few (c .before .before .before .before .before .before .before .before .before .before .before .before)))
     (λ c. omega (arith, few (c .before .before .before .before .before .before .before .before .before .before .before .before)))
     seal-requires (λ c. search needs) returns)

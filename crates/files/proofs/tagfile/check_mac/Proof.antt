@@ -6,14 +6,14 @@ use Rattle.files.proofs.tagfile.check_mac.Statement.{statement}
 use Rattle.files.proofs.tagfile.check_mac.Tie as tie
 
 long : (c : tie.After-shared-slice-known) → 16 ≤ length (c .before .args .s .now)
-long c = omega (arith, formed (c .before .args .s .now) (c .before .pre) .long)
+long c = omega (arith, formed (c .before .args .s .now) (c .before .pre .1) .long)
 
 returns : tie.Need-returns
 returns c =
     let m = c .before .before .before in
     let d = m .before .before in
     c .unless .ensures
-    ∙ mac-is (d .before .args .key) (d .before .args .s .now) _ _ _ _ _ refl refl (m .cmac .ensures) (c .before .before .block-at .ensures) (long d) (c .before .equal .ensures)
+    ∙ mac-is (d .before .args .key) (d .before .args .s .now) _ _ _ _ _ refl refl (m .cmac-with .ensures) (c .before .before .block-at .ensures) (long d) (c .before .equal .ensures)
 
 pub check-mac-spec : {M : Type 1} → statement M
 check-mac-spec =

@@ -11,9 +11,9 @@ returns c =
     let o = d .args .out .now in
     let n = d .args .n in
     let z : n - 0 ≡ n = omega arith in
-    part-back o (c .before .before .put .last .0) (c .before .before .before .before .cmac .result) n 16 (d .pre) (c .before .before .put .ensures)
+    part-back o (c .before .before .put .last .0) (c .before .before .before .before .cmac-with .result) n 16 (d .pre .1) (c .before .before .put .ensures)
     ∙ ap (λ (t : List ℕ). take n o ++ (t ++ drop (n + 16) o))
-    (c .before .before .before .before .cmac .ensures ∙ ap (λ (k : ℕ). cmac (d .args .key) (take k o)) z)
+    (c .before .before .before .before .cmac-with .ensures ∙ ap (λ (k : ℕ). cmac (d .args .key) (take k o)) z)
 
 pub seal-spec : {M : Type 1} → statement M
 seal-spec =

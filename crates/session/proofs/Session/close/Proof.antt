@@ -31,14 +31,16 @@ write-file-requires : tie.Need-write-file-requires
 unfolding closeRefusal sessionHead
 write-file-requires c κs =
     let e = c .before .before .head .ensures in
-    let f = c .before .before .before .before .before in
+    let f = c .before .before .before .before .before .before .before in
     let q = f .before .before in
     let d = q .before .before in
     let s = d .args .self in
     let h : length (s .sums) ≡ 1312 = sym (slice-aggregate-write-file (c .before)) in
-    let p = close-tells s (d .args .out .now) _ (q .close-refusal .ensures) (f .if1 .left) in
-    subst (λ (x : Head). (known (x .code) ≡ true) × ((x .count ≤ familyOf (x .code) .items) × ((16 * familyOf (x .code) .tags ≤ length (s .sums)) × (fileSize x ≤ length (d .args .out .now))))) (sym e)
-    (p .code, (p .fits, (sums-fit (s .code) (s .sums) h, p .room)))
+    let p = close-tells s (d .args .out .now) _ (q .close-refusal .ensures) (f .if1 .left) in (
+      search needs,
+      subst (λ (x : Head). (known (x .code) ≡ true) × ((x .count ≤ familyOf (x .code) .items) × ((16 * familyOf (x .code) .tags ≤ length (s .sums)) × (fileSize x ≤ length (d .args .out .now))))) (sym e)
+          (p .code, (p .fits, (sums-fit (s .code) (s .sums) h, p .room))),
+    )
 
 closed-requires : tie.Need-closed-requires
 closed-requires c κs = search needs
@@ -51,7 +53,7 @@ unfolding closeRefusal closeGives closeWrites
 returns-2 c =
     let w = c .before .before .before in
     let r = w .before .before .before in
-    let f = r .before .before .before in
+    let f = r .before .before .before .before .before in
     let q = f .before .before in
     let d = q .before .before in
     let s = d .args .self in
@@ -65,6 +67,7 @@ close-spec =
     (tie.spec
     close-refusal-requires
     returns
+    (λ c κs. search needs)
     (λ c κs. search needs)
     slice-aggregate-write-file
     write-file-requires

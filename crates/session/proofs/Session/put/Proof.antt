@@ -19,7 +19,7 @@ with-item-requires : tie.Need-with-item-requires
 with-item-requires c κs =
     let q = c .before .before in
     let d = q .before .before in
-    let p = put-tells (d .args .self) (d .args .item .now) _ (q .put-refusal .ensures) (c .if1 .left) in (p .code, p .more)
+    let p = put-tells (d .args .self) (d .args .item .now) _ (q .put-refusal .ensures) (c .if1 .left) in (p .code, (p .more, p .short))
 
 returns-2 : tie.Need-returns-2
 unfolding putGives
