@@ -1,9 +1,11 @@
-/* Tag, Verify, Report and Replace, measured in one run, on planes and on affine sizes, as tables.
+/* Tag, Verify, Report and Replace on planes and on affine sizes.
  *
- * Speed: each time as a ratio to (a) one CMAC of the same bytes by this library's cipher, the source paper's own measure, (b) the second
- * implementation of tests/host, the same call, (c) one CMAC of the same bytes by libtomcrypt's portable C. Growth: how the time goes with the
- * number of cards. Each time is the best of many, and the run fails where the two implementations differ. Stack: the bytes that a call uses,
- * at the largest plane and the largest affine size. */
+ * calls-bench rows: a line for each size, count, length and call, with its best time in this process beside one CMAC of the same bytes by
+ * libtomcrypt's portable C, one by this library's cipher (the source paper's own measure) and the second implementation's same call, in
+ * microseconds. bench/calls runs it in several processes and makes the ratios. It fails where the two implementations differ.
+ *
+ * calls-bench rest: how the time goes with the number of cards, and the bytes of stack that a call uses, at the largest plane and the
+ * largest affine size, as tables. */
 #include "../include/gtm.h"
 #include "../tests/host/second.h"
 
@@ -164,6 +166,7 @@ static void measure(int count, double least[][12])
             }
 }
 
+/* size, cards, bytes a card, bytes in all, call; the call's time, libtomcrypt's CMAC, our CMAC, the second implementation's call */
 static void print_size(const struct family *f)
 {
     static const size_t lengths[3] = {16, 232, 1024};
@@ -172,16 +175,15 @@ static void print_size(const struct family *f)
         lay_out(&settings[0], f, f->cards, lengths[q], f->limit);
         measure(1, t);
         for (int i = 0; i < 5; i++)
-            printf("| %u | %u | %zu | %s | %.2f | %.2f | %.2f |\n", f->code, settings[0].cards, lengths[q], calls[i].name, t[0][2 + 2 * i] / t[0][0],
-                   t[0][2 + 2 * i] / t[0][3 + 2 * i], t[0][2 + 2 * i] / t[0][1]);
+            printf("%u\t%u\t%zu\t%zu\t%s\t%.3f\t%.3f\t%.3f\t%.3f\n", f->code, settings[0].cards, lengths[q], settings[0].shelf_len, calls[i].name,
+                   t[0][2 + 2 * i] * 1e6, t[0][1] * 1e6, t[0][0] * 1e6, t[0][3 + 2 * i] * 1e6);
     }
 }
 
 /* The planes, then of either field the affine sizes with the lowest and the highest limit. */
-static void print_speed(void)
+static void print_rows(void)
 {
     static const unsigned codes[] = {1, 2, 3, 4, 35, 37, 51, 57};
-    puts("| size | cards | bytes a card | call | to our CMAC | to the second implementation | to libtomcrypt's CMAC |\n|---|---|---|---|---|---|---|");
     for (size_t i = 0; i < sizeof codes / sizeof codes[0]; i++) print_size(second_family(codes[i]));
 }
 
@@ -277,13 +279,17 @@ static size_t print_stack(const struct family *f)
     return largest;
 }
 
-int main(void)
+int main(int argc, char **argv)
 {
     rijndael = register_cipher(&rijndael_desc);
     need(second_start() == 0 && second_check() == 0 && rijndael >= 0, "start");
     srand(1);
     for (size_t i = 0; i < sizeof keys; i++) keys[i] = (uint8_t)rand();
-    print_speed();
+    if (argc == 2 && strcmp(argv[1], "rows") == 0) {
+        print_rows();
+        return 0;
+    }
+    need(argc == 2 && strcmp(argv[1], "rest") == 0, "calls-bench rows, or rest");
     print_growth();
     size_t plane = print_stack(second_family(4)), affine = print_stack(second_family(57));
     printf("\nThe largest stack that one call uses: %zu bytes\n", plane > affine ? plane : affine);

@@ -1,6 +1,6 @@
-/* The speed of both engines, crates/tables and crates/plain, against libtomcrypt's portable AES, from one run: the ratio says how many
- * times libtomcrypt's time ours takes. CMAC runs on the tables alone. Each time is the best of many. Both sides get the same input, and
- * the run fails where they give different bytes.
+/* The speed of both engines, crates/tables and crates/plain, beside libtomcrypt's portable AES: a line for each kind of work, with the best
+ * time of either in this process. bench/run runs it in several processes and makes the ratios. CMAC runs on the tables alone. Both sides get
+ * the same input, and the run fails where they give different bytes.
  *
  * libtomcrypt's side is rijndael_desc, its table-driven C in every version; aes_desc may turn to AES-NI in versions after 1.18. Its setup
  * makes the schedule for deciphering too. */
@@ -107,7 +107,7 @@ static void agree(const char *name, work *ours, work *theirs, size_t n, size_t o
     need(memcmp(a, b, out_len) == 0, name, "not the same bytes");
 }
 
-/* Compares both sides on n bytes, then measures them in turn and prints a row of the table. */
+/* Compares both sides on n bytes, then measures them in turn and prints a line: its name, and microseconds by both. */
 static void row(const char *name, work *ours, work *theirs, size_t n, size_t out_len, int calls)
 {
     static uint8_t out[LONG];
@@ -118,7 +118,7 @@ static void row(const char *name, work *ours, work *theirs, size_t n, size_t out
         if (our < our_best) our_best = our;
         if (their < their_best) their_best = their;
     }
-    printf("%-32s %12.2f %12.2f %8.2f\n", name, our_best, their_best, our_best / their_best);
+    printf("%s\t%.4f\t%.4f\n", name, our_best, their_best);
 }
 
 int main(void)
@@ -128,7 +128,6 @@ int main(void)
     for (int i = 0; i < 16; i++) key[i] = (uint8_t)(i * 29 + 7);
     for (int i = 0; i < LONG; i++) input[i] = (uint8_t)(i * 131 + i / 256);
     for (size_t n = 0; n <= 100; n++) agree("CMAC, 0 to 100 bytes", our_cmac, their_cmac, n, 16);
-    printf("%-32s %12s %12s %8s\n", "best of many", "ours, us", "theirs, us", "ratio");
     row("CMAC, 64 KiB", our_cmac, their_cmac, LONG, 16, 1);
     row("CMAC, 40 bytes", our_cmac, their_cmac, SHORT, 16, 200);
     row("encipher, 4096 blocks, tables", our_encipher, their_encipher, LONG, LONG, 1);
