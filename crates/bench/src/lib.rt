@@ -12,22 +12,30 @@ ghost use Prim.Native.Nat.{_≤_};
 ghost use lib.ListN.{length};
 
 // Enciphers each block of input into out: copied, then all in place.
-fn encipher_blocks(w: [u8; 176], input: &[u8], out: &mut [u8])
+fn encipher_blocks(key: [u8; 16], input: &[u8], out: &mut [u8])
     requires { ⌜ length (now input) ≤ length (now out) ⌝ }
 {
     let t = engine::tables();
+    let w = engine::expand(&t, key);
     let count = input.len() / 16;
     copy_blocks(input, count, out);
     aes::encipher_blocks(&t, w, count, out);
 }
 
 // Deciphers each block of input into out: copied, then all in place.
-fn decipher_blocks(w: [u8; 176], input: &[u8], out: &mut [u8])
+fn decipher_blocks(key: [u8; 16], input: &[u8], out: &mut [u8])
     requires { ⌜ length (now input) ≤ length (now out) ⌝ }
 {
+    let w = aes::key_expansion(key);
     let count = input.len() / 16;
     copy_blocks(input, count, out);
     engine::decipher_blocks(w, count, out);
+}
+
+// The expanded key, by the plain engine.
+fn plain_expand(key: [u8; 16]) -> [u8; 176] {
+    let t = fips197::sbox::table();
+    plain::schedule::expand(&t, key)
 }
 
 // Enciphers each block of input into out by the plain engine, with its table taken once.
@@ -80,7 +88,7 @@ pub extern "C" fn bench_encipher(key: &[u8], input: &[u8], out: &mut [u8]) -> u6
     if out.len() < input.len() {
         return 0;
     }
-    encipher_blocks(aes::key_expansion(block_at(key, 0)), input, out);
+    encipher_blocks(block_at(key, 0), input, out);
     1
 }
 
@@ -93,7 +101,7 @@ pub extern "C" fn bench_decipher(key: &[u8], input: &[u8], out: &mut [u8]) -> u6
     if out.len() < input.len() {
         return 0;
     }
-    decipher_blocks(aes::key_expansion(block_at(key, 0)), input, out);
+    decipher_blocks(block_at(key, 0), input, out);
     1
 }
 
@@ -106,7 +114,7 @@ pub extern "C" fn bench_plain_encipher(key: &[u8], input: &[u8], out: &mut [u8])
     if out.len() < input.len() {
         return 0;
     }
-    plain_encipher_blocks(aes::key_expansion(block_at(key, 0)), input, out);
+    plain_encipher_blocks(plain_expand(block_at(key, 0)), input, out);
     1
 }
 
@@ -119,7 +127,7 @@ pub extern "C" fn bench_plain_decipher(key: &[u8], input: &[u8], out: &mut [u8])
     if out.len() < input.len() {
         return 0;
     }
-    plain_decipher_blocks(aes::key_expansion(block_at(key, 0)), input, out);
+    plain_decipher_blocks(plain_expand(block_at(key, 0)), input, out);
     1
 }
 
@@ -132,9 +140,8 @@ pub extern "C" fn bench_setup(key: &[u8], out: &mut [u8]) -> u64 {
     if out.len() < 16 {
         return 0;
     }
-    let w = aes::key_expansion(block_at(key, 0));
     let block = block_at(out, 0);
-    put(out, tables::encipher_with(w, block));
+    put(out, aes::encipher(block_at(key, 0), block));
     1
 }
 
@@ -147,8 +154,7 @@ pub extern "C" fn bench_plain_setup(key: &[u8], out: &mut [u8]) -> u64 {
     if out.len() < 16 {
         return 0;
     }
-    let w = aes::key_expansion(block_at(key, 0));
     let block = block_at(out, 0);
-    put(out, plain::encipher_with(w, block));
+    put(out, plain::encipher(block_at(key, 0), block));
     1
 }

@@ -1,11 +1,10 @@
 // AES-128 (FIPS 197). A caller with one block uses `encipher` and `decipher`. A caller with many takes the engine's tables and expands the
-// key once, with `key_expansion`, and hands both to `encipher_with` or, where the blocks stand in a row, to `encipher_blocks`; the way back
+// key once, with `engine::expand`, and hands both to `encipher_with` or, where the blocks stand in a row, to `encipher_blocks`; the way back
 // is `engine::decipher_blocks`.
 use crate::engine;
 use crate::engine::Tables;
 use blocks::block;
 use fips197::sbox;
-use fips197::schedule;
 ghost use mathlib.Core.Path.{_≡_};
 ghost use mathlib.Core.List.{List, _++_};
 ghost use Prim.Native.Nat.{ℕ, _*_, _≤_};
@@ -22,11 +21,12 @@ pub fn sub_byte(b: u8) -> u8
     sbox::lookup(&t, b)
 }
 
-// The expanded key: FIPS 197's key schedule, 44 words.
+// The expanded key, for a caller who has not taken the tables.
 pub fn key_expansion(key: [u8; 16]) -> [u8; 176]
     ensures { λ r. ⌜ r ≡ keyExpansion key ⌝ }
 {
-    schedule::expand(key)
+    let t = engine::tables();
+    engine::expand(&t, key)
 }
 
 // Enciphers a block with an expanded key, read where it lies.
@@ -67,7 +67,7 @@ pub fn encipher(key: [u8; 16], block: [u8; 16]) -> [u8; 16]
     ensures undoes { λ r. ⌜ ((b : List ℕ) → Block b → block ≡ decipher key b → r ≡ b) ⌝ }
 {
     let t = engine::tables();
-    encipher_with(&t, key_expansion(key), block)
+    encipher_with(&t, engine::expand(&t, key), block)
 }
 
 // The inverse of AES-128. Of an enciphered block it gives the block back.

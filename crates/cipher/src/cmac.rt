@@ -24,7 +24,7 @@ pub fn prepare(t: &Tables, key: [u8; 16]) -> MacKey
     requires { ⌜ EngineTables (now t) ⌝ }
     ensures { λ r. ⌜ r ≡ ready key ⌝ }
 {
-    let schedule = aes::key_expansion(key);
+    let schedule = engine::expand(t, key);
     let k1 = block::double(aes::encipher_with(t, schedule, [0u8; 16]));
     let k2 = block::double(k1);
     MacKey { schedule, k1, k2 }

@@ -1,21 +1,22 @@
-// The engine that runs, by round tables (crate `tables`): the one place that names it. Enciphering takes its tables from the caller, who takes
-// them once, with `tables`, and hands them down by reference; what they hold is the engine's (specs/Engine.antt: EngineTables).
+// The engine that runs, by round tables (crate `tables`): the one place that names it. Expanding a key and enciphering take its tables from the
+// caller, who takes them once, with `tables`, and hands them down by reference; what they hold is the engine's (specs/Engine.antt: EngineTables).
 use blocks::block;
 use fips197::inv_sbox;
 use tables::inv_round_tables;
 use tables::keys;
 use tables::round_tables;
 use tables::rounds;
+use tables::schedule;
 ghost use mathlib.Core.Path.{_≡_};
 ghost use mathlib.Core.List.{_++_};
 ghost use Prim.Native.Nat.{_*_, _/_, _≤_};
 ghost use lib.ListN.{length, drop};
 ghost use Rattle.blocks.specs.Block.{slot, listOf};
 ghost use Rattle.blocks.specs.Chain.{chain};
-ghost use Rattle.cipher.specs.Aes.{cipher, invCipher};
+ghost use Rattle.cipher.specs.Aes.{keyExpansion, cipher, invCipher};
 ghost use Rattle.cipher.specs.Engine.{EngineTables};
 
-// What enciphering reads.
+// What expanding a key and enciphering read: the S-box is among it.
 pub type Tables = [u32; 512];
 
 // The tables.
@@ -23,6 +24,14 @@ pub fn tables() -> Tables
     ensures { λ r. ⌜ EngineTables r ⌝ }
 {
     round_tables::table()
+}
+
+// The expanded key: FIPS 197's key schedule, 44 words.
+pub fn expand(t: &Tables, key: [u8; 16]) -> [u8; 176]
+    requires { ⌜ EngineTables (now t) ⌝ }
+    ensures { λ r. ⌜ r ≡ keyExpansion key ⌝ }
+{
+    schedule::expand(t, key)
 }
 
 // The chain from x over the whole blocks of s, with an expanded key.

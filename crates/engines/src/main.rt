@@ -2,7 +2,7 @@
 // cards of each plane and of the largest affine size. The library runs on the tables; the plain engine's tags are made and taken back here,
 // from and to the sums of the tagged rows that a session carries. `stdout` has what each line must say.
 use blocks::block;
-use fips197::schedule;
+use cipher::aes;
 use trial::inputs;
 use trial::inputs::KEYS;
 use trial::say;
@@ -53,7 +53,7 @@ fn turn(w: [u8; 176], to_tag: bool, t: usize, s: &[u8], from: usize, out: &mut [
 }
 
 fn tag_schedule() -> [u8; 176] {
-    schedule::expand(block::block_at(&KEYS, 16))
+    aes::key_expansion(block::block_at(&KEYS, 16))
 }
 
 // A sheet's bytes with zeros for tags, and the tags of the sums by the plain engine over them.

@@ -4,7 +4,9 @@ use Rattle.fips197.specs.Block.{if_then_else_, Bytes, Block, _⊕_}
 use Rattle.fips197.specs.Field.{power, powerBy, _•_}
 use Rattle.fips197.specs.Aes.{sbox, word, rotWord, subWord, rcon, temp, expanded, keyExpansion, roundKey}
 use Rattle.fips197.specs.Words.{bytesOf, stateOf}
+use Rattle.fips197.specs.declared.columns.Columns.{Columns}
 use Rattle.fips197.proofs.Xor.{⊕-length, ⊕-bytes, byte-at, append-bytes, take-bytes, drop-bytes, map-bytes}
+use Rattle.fips197.proofs.Loop.{placed-long}
 use Rattle.fips197.proofs.TableRules.{sbox-lt}
 use Rattle.fips197.proofs.Mixing.{product-lt}
 use Rattle.fips197.proofs.States.{elements-of, bytes-at, words-at}
@@ -179,43 +181,69 @@ module _ (key w : List ℕ) (n : ℕ) (so : expanded key (4 * n) ≡ w) (long : 
       ∙ append-assoc w (bytesOf p) (bytesOf q ++ (bytesOf r ++ bytesOf s))
       ∙ ap (λ (l : List ℕ). w ++ l) (sym (append-assoc (bytesOf p) (bytesOf q) (bytesOf r ++ bytesOf s)) ∙ sym (append-assoc (bytesOf p ++ bytesOf q) (bytesOf r) (bytesOf s)))
 
--- round keys 0 to n stand in w, and the last of them is k
-pub record Written (key w : List ℕ) (n a b c d : ℕ) : Type 0 where
+-- round keys 0 to n stand in w, which has room for all eleven, and the last of them is k
+pub record Written (key w : List ℕ) (n : ℕ) (k : Columns) : Type 0 where
+  pub reach : n ≤ 10
+  pub long : length w ≡ 176
   pub front : take (16 * n + 16) w ≡ expanded key (4 * n)
-  pub last : drop (16 * n) (expanded key (4 * n)) ≡ stateOf a b c d
+  pub last : drop (16 * n) (expanded key (4 * n)) ≡ stateOf (k .a) (k .b) (k .c) (k .d)
 
-pub state-length : (a b c d : ℕ) → length (stateOf a b c d) ≡ 16
+state-length : (a b c d : ℕ) → length (stateOf a b c d) ≡ 16
 unfolding stateOf bytesOf
 state-length a b c d = refl
 
-module _ (key : List ℕ) (hk : length key ≡ 16) where
-  pub written-first : (w w′ : List ℕ) (a b c d : ℕ) → stateOf a b c d ≡ key → w′ ≡ take (16 * 0) w ++ (stateOf a b c d ++ drop (16 * 0 + 16) w) → Written key w′ 0 a b c d
-  unfolding expanded
-  written-first w w′ a b c d e p = record {
-    front = ap (take 16) p ∙ take-at (stateOf a b c d) (drop 16 w) 16 (ap length e ∙ hk) ∙ e;
-    last = sym e;
-  }
+-- the schedule begins with the key
+pub written-first : (w w′ : List ℕ) (k : Columns) → length w ≡ 176
+    → w′ ≡ take (16 * 0) w ++ (stateOf (k .a) (k .b) (k .c) (k .d) ++ drop (16 * 0 + 16) w)
+    → Written (stateOf (k .a) (k .b) (k .c) (k .d)) w′ 0 k
+unfolding expanded
+written-first w w′ k h p =
+    let s = stateOf (k .a) (k .b) (k .c) (k .d) in
+    let l = state-length (k .a) (k .b) (k .c) (k .d) in
+    record {
+      reach = omega arith;
+      long = ap length p ∙ placed-long w s 0 16 (omega arith) l ∙ h;
+      front = ap (take 16) p ∙ take-at s (drop 16 w) 16 l;
+      last = refl;
+    }
 
-  pub written-next : (w w′ : List ℕ) (n a b c d p q r s : ℕ) → length w ≡ 176 → n < 10 → Written key w n a b c d
-      → bytesOf p ≡ bytesOf a ⊕ (subWord (rotWord (bytesOf d)) ⊕ rcon (n + 1)) → bytesOf q ≡ bytesOf b ⊕ bytesOf p → bytesOf r ≡ bytesOf c ⊕ bytesOf q
-      → bytesOf s ≡ bytesOf d ⊕ bytesOf r → w′ ≡ take (16 * (n + 1)) w ++ (stateOf p q r s ++ drop (16 * (n + 1) + 16) w) → Written key w′ (n + 1) p q r s
-  written-next w w′ n a b c d p q r s h l W ep eq er es e =
+-- a turn of the loop: x is the last word turned and through the S-box
+module _ (k₀ : Columns) where
+  abbrev key : List ℕ
+  key = stateOf (k₀ .a) (k₀ .b) (k₀ .c) (k₀ .d)
+
+  pub written-next : (w w′ : List ℕ) (n x : ℕ) (k r : Columns) → n < 10 → Written key w n k
+      → bytesOf x ≡ subWord (rotWord (bytesOf (k .d)))
+      → bytesOf (r .a) ≡ bytesOf (k .a) ⊕ (bytesOf x ⊕ rcon (n + 1))
+      → (bytesOf (r .b) ≡ bytesOf (k .b) ⊕ bytesOf (r .a)) × (bytesOf (r .c) ≡ bytesOf (k .c) ⊕ bytesOf (r .b)) × (bytesOf (r .d) ≡ bytesOf (k .d) ⊕ bytesOf (r .c))
+      → w′ ≡ take (16 * (n + 1)) w ++ (stateOf (r .a) (r .b) (r .c) (r .d) ++ drop (16 * (n + 1) + 16) w) → Written key w′ (n + 1) r
+  written-next w w′ n x k r l W ex ea (eb, ec, ed) e =
       let v = expanded key (4 * n) in
-      let lv : length v ≡ 16 * n + 16 = expanded-length key hk (4 * n) ∙ omega arith in
-      let more : expanded key (4 * (n + 1)) ≡ v ++ stateOf p q r s = round-more key v n refl lv a b c d p q r s (W .last) ep eq er es in
+      let s = stateOf (r .a) (r .b) (r .c) (r .d) in
+      let ls = state-length (r .a) (r .b) (r .c) (r .d) in
+      let lw : length w ≡ 176 = W .long in
+      let lv : length v ≡ 16 * n + 16 = expanded-length key (state-length (k₀ .a) (k₀ .b) (k₀ .c) (k₀ .d)) (4 * n) ∙ omega arith in
+      let more : expanded key (4 * (n + 1)) ≡ v ++ s =
+      round-more key v n refl lv (k .a) (k .b) (k .c) (k .d) (r .a) (r .b) (r .c) (r .d) (W .last) (ea ∙ ap (λ (y : List ℕ). bytesOf (k .a) ⊕ (y ⊕ rcon (n + 1))) ex) eb ec ed
+      in
       let f : 16 * (n + 1) ≡ 16 * n + 16 = omega arith in
-      let g : take (16 * (n + 1)) w ≡ v = ap (λ (k : ℕ). take k w) f ∙ W .front in
-      let z : length (v ++ stateOf p q r s) ≡ 16 * (n + 1) + 16 = length-append v (stateOf p q r s) ∙ ap (λ (k : ℕ). length v + k) (state-length p q r s) ∙ omega arith in
+      let g : take (16 * (n + 1)) w ≡ v = ap (λ (i : ℕ). take i w) f ∙ W .front in
+      let z : length (v ++ s) ≡ 16 * (n + 1) + 16 = length-append v s ∙ ap (λ (i : ℕ). length v + i) ls ∙ omega arith in
       record {
-        front = ap (take (16 * (n + 1) + 16)) (e ∙ sym (append-assoc (take (16 * (n + 1)) w) (stateOf p q r s) _) ∙ ap (λ (l : List ℕ). l ++ stateOf p q r s ++ drop (16 * (n + 1) + 16) w) g)
-            ∙ take-at (v ++ stateOf p q r s) (drop (16 * (n + 1) + 16) w) (16 * (n + 1) + 16) z ∙ sym more;
-        last = ap (drop (16 * (n + 1))) more ∙ drop-at v (stateOf p q r s) (16 * (n + 1)) (omega arith);
+        reach = omega arith;
+        long = ap length e ∙ placed-long w s (16 * (n + 1)) 16 (omega arith) ls ∙ lw;
+        front = ap (take (16 * (n + 1) + 16)) (e ∙ sym (append-assoc (take (16 * (n + 1)) w) s _) ∙ ap (λ (l : List ℕ). l ++ s ++ drop (16 * (n + 1) + 16) w) g)
+            ∙ take-at (v ++ s) (drop (16 * (n + 1) + 16) w) (16 * (n + 1) + 16) z ∙ sym more;
+        last = ap (drop (16 * (n + 1))) more ∙ drop-at v s (16 * (n + 1)) (omega arith);
       }
 
-  pub written-all : (w : List ℕ) (n a b c d : ℕ) → n ≡ 10 → length w ≡ 176 → Written key w n a b c d → w ≡ keyExpansion key
+  pub written-all : (l w : List ℕ) (n : ℕ) (k : Columns) → key ≡ l → 10 ≤ n → Written key w n k → w ≡ keyExpansion l
   unfolding keyExpansion
-  written-all w n a b c d e h W =
-      sym (take-all (16 * n + 16) w (omega arith)) ∙ W .front ∙ ap (λ (k : ℕ). expanded key (4 * k)) e
+  written-all l w n k so h W =
+      let r : n ≤ 10 = W .reach in
+      let lw : length w ≡ 176 = W .long in
+      let e : n ≡ 10 = omega arith in
+      sym (take-all (16 * n + 16) w (omega arith)) ∙ W .front ∙ ap₂ (λ (v : List ℕ) (i : ℕ). expanded v (4 * i)) so e
 
 -- a round key is four words
 pub roundKey-words : (w : List ℕ) (n : ℕ) → roundKey w n ≡ word w (4 * n) ++ word w (4 * n + 1) ++ word w (4 * n + 2) ++ word w (4 * n + 3)

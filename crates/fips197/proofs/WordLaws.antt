@@ -52,6 +52,12 @@ pub bytes-xor : (x y : ℕ) → bytesOf (bitXor x y) ≡ bytesOf x ⊕ bytesOf y
 unfolding bytesOf _⊕_
 bytes-xor x y = λ i. xor-mod x y 8 i ∷ byte-xor x y 8 i ∷ byte-xor x y 16 i ∷ byte-xor x y 24 i ∷ []
 
+-- a word of one byte
+pub bytes-small : (x y : ℕ) → x < 256 → x ≡ y → bytesOf x ≡ y ∷ 0 ∷ 0 ∷ 0 ∷ []
+bytes-small x y h e =
+    let p : x ≡ packed x 0 0 0 = omega arith in
+    ap bytesOf p ∙ bytes-packed x 0 0 0 h (omega arith) (omega arith) (omega arith) ∙ ap (λ (a : ℕ). a ∷ 0 ∷ 0 ∷ 0 ∷ []) e
+
 -- a law of four bytes holds of every word
 by-bytes : (P : ℕ → List ℕ → Type 0)
     → ((a b c d : ℕ) → a < 256 → b < 256 → c < 256 → d < 256 → P (packed a b c d) (a ∷ b ∷ c ∷ d ∷ []))

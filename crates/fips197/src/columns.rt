@@ -92,7 +92,7 @@ pub fn store(s: Columns) -> [u8; 16]
 }
 
 // A byte of each of four columns, the first of one, the second of the next and so on, through a table.
-fn gather(t: &[u8; 256], a: u32, b: u32, c: u32, d: u32) -> u32
+pub fn gather(t: &[u8; 256], a: u32, b: u32, c: u32, d: u32) -> u32
     ensures { λ r. ⌜ ((f : ℕ → ℕ) → Tabulates (now (t .entry)) f → bytesOf r ≡ f (a % 256) ∷ f (b / 256 % 256) ∷ f (c / 65536 % 256) ∷ f (d / 16777216 % 256) ∷ []) ⌝ }
 {
     words::from_bytes(

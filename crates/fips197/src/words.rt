@@ -30,7 +30,7 @@ fn xtime(x: u32) -> u32
 }
 
 // Each byte is the one below it, the last the first.
-fn turn(x: u32) -> u32
+pub fn turn(x: u32) -> u32
     ensures { λ r. ⌜ bytesOf r ≡ rotWord (bytesOf x) ⌝ }
 {
     x / 256 + x % 256 * 16777216

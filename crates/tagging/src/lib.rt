@@ -1,9 +1,9 @@
 // Tag's rule (000, section 4.3): the items' hashes added to the sums of their rows, and a tag file written from sums. Sessions and the
 // calls on whole messages rest on these.
 use blocks::block;
-use cipher::aes;
 use cipher::cmac;
 use cipher::cmac::MacKey;
+use cipher::engine;
 use cipher::engine::Tables;
 use files::message;
 use files::message::Cursor;
@@ -119,6 +119,6 @@ pub fn write_file(t: &Tables, head: Head, keys: Keys, sums: &[u8], out: &mut [u8
     let tag_key = keys.tag;
     let seal_key = keys.seal;
     tagfile::put_header(out, head);
-    keyed::write_tags(t, aes::key_expansion(tag_key), sums, n, &mut out[at..]);
+    keyed::write_tags(t, engine::expand(t, tag_key), sums, n, &mut out[at..]);
     tagfile::seal(t, seal_key, out, at + 16 * n);
 }

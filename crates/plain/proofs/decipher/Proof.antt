@@ -7,10 +7,10 @@ use Rattle.plain.proofs.decipher.Tie as tie
 
 returns : tie.Need-returns
 returns c =
-    let d = c .before .before in
+    let d = c .before .before .before .before in
     let key = d .args .key in
     let hk : Block key = block-of key (search needs) (λ i l. search needs) in
     deciphered key hk _ (d .args .block) _ (c .before .expand .ensures) (c .decipher-with .ensures)
 
 pub decipher-spec : {M : Type 1} → statement M
-decipher-spec = tie.close (tie.spec (λ c κs. search needs) (λ c κs. search needs) returns)
+decipher-spec = tie.close (tie.spec (λ c κs. search needs) (λ c κs. search needs) (λ c κs. search needs) returns)

@@ -62,7 +62,7 @@ module _ (c : tie.After-write-tags) where
       ≡ take (place made) (at .put-header .last .0) ++ (tags ++ drop (place made + 16 * made .tags .result) (at .put-header .last .0))
   written =
       part-back (at .put-header .last .0) _ tags (place made) (16 * made .tags .result) (omega (arith, behind at))
-      (tags-expanded (start .args .keys .tag) _ _ _ _ _ (c .before .before .key-expansion .ensures) (c .write-tags .ensures))
+      (tags-expanded (start .args .keys .tag) _ _ _ _ _ (c .before .before .expand .ensures) (c .write-tags .ensures))
 
 seal-requires : tie.Need-seal-requires
 seal-requires c κs =

@@ -7,10 +7,10 @@ use Rattle.cipher.proofs.aes.encipher.Tie as tie
 
 returns : tie.Need-returns
 returns c =
-    let d = c .before .before .before .before in
+    let d = c .before .before .before .before .before in
     let key = d .args .key in
     let hk : Block key = block-of key (search needs) (λ i l. search needs) in
-    enciphered key hk _ (d .args .block) _ (c .before .key-expansion .ensures) (c .encipher-with .ensures)
+    enciphered key hk _ (d .args .block) _ (c .before .expand .ensures) (c .encipher-with .ensures)
 
 pub encipher-spec : {M : Type 1} → statement M
 encipher-spec = tie.close (tie.spec (λ c κs. search needs) (λ c κs. search needs) (λ c κs. search needs) returns)

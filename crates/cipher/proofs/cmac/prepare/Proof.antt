@@ -12,7 +12,7 @@ unfolding ready subkey1 subkey2
 returns c =
     let d = c .before .before .before .before in
     let key = d .args .key in
-    let k = c .before .before .before .key-expansion .ensures in
+    let k = c .before .before .before .expand .ensures in
     let e1 = c .before .double .ensures ∙ ap double (c .before .before .encipher-with .ensures ∙ encipher-is key _ (zeros 16) k) in
     let e2 = c .double2 .ensures ∙ ap double e1 in
     λ i. record { schedule = k i; k1 = e1 i; k2 = e2 i }
