@@ -1,6 +1,6 @@
 -- The code's tables are what the definitions give, for each of the ten sizes: one test over each table. The tests go through the lists once;
 -- the laws before them say that this gives what the definitions say of each place.
-use Rattle.fips197.proofs.Kit.{_≡_, refl, sym, ap, ap₂, _∙_, subst, Bool, true, false, true≢false, not, _&&_, List, [], _∷_, map, ℕ, zero, suc, _+_, _-_, _*_, _^_, _≤_, _<_, arith, add-zero, zero-add, eqb, leb, eqb-true, eqb-false, leb-true, length, getD, take, drop, not-true, getD-take, getD-drop, drop-drop, length-map, length-take, length-drop}
+use Rattle.fips197.proofs.Kit.{_≡_, refl, sym, ap, ap₂, _∙_, subst, Bool, true, false, true≢false, not, _&&_, List, [], _∷_, map, ℕ, zero, suc, _+_, _-_, _*_, _/_, _%_, _^_, _≤_, _<_, arith, add-zero, zero-add, eqb, leb, eqb-true, eqb-false, leb-true, length, getD, take, drop, not-true, getD-take, getD-drop, drop-drop, length-map, length-take, length-drop}
 use Rattle.blocks.specs.Block.{if_then_else_}
 use Rattle.blocks.proofs.Loop.{map-at}
 use Rattle.incidence.specs.Count.{indicator, countUpTo, listed}
@@ -10,7 +10,7 @@ use Rattle.incidence.proofs.Listing.{listed-length}
 use Rattle.affine.specs.Field.{polynomial, elementTimesX, productOver, product, elementPower, elementInverse}
 use Rattle.affine.specs.Lines.{points, xOf, yOf, onLine, chosen, affineItems, isRow, pointOf, rowCount}
 use Rattle.affine.specs.Affine.{sized, itemSet, eliminated, remainder, isTagged, affineFamily, tagNumbers}
-use Rattle.affine.specs.Walk.{courseOf, placeOn, chosenAt, dual, throughCount, sizeIndex, entryOf, wideEntryOf, MadeIn}
+use Rattle.affine.specs.Walk.{courseOf, placeOn, chosenAt, dual, throughCount, sizeIndex, entryOf, wideEntryOf, behind, MadeIn}
 use Rattle.affine.specs.Elimination.{has, greatest, Remainder, nothing, add, reduced, reducedBy, remainderOf, next}
 use Rattle.affine.proofs.Tagging.{tagged-yes, tagged-no, made-is, made-none}
 use Rattle.affine.proofs.Listings.{passing, passing-is}
@@ -319,48 +319,51 @@ part-long s l size T e n =
 
 -- ---- the rows that a row is made of
 
--- whether the lists stand one behind the other in a table, the first at place a, and another table says where each begins
-unfoldable pub standTest : List ℕ → ℕ → List ℕ → List (List ℕ) → Bool
-standTest S a T [] = true
-standTest [] a T (r ∷ rs) = false
-standTest (hi ∷ []) a T (r ∷ rs) = false
-standTest (hi ∷ lo ∷ S) a T (r ∷ rs) = eqb (256 * hi + lo) a && (begins T r && standTest S (a + length r) (drop (length r) T) rs)
+-- whether the lists stand one behind the other at the front of a table, each behind its length
+unfoldable pub standTest : List ℕ → List (List ℕ) → Bool
+standTest T [] = true
+standTest T (r ∷ rs) = eqb (length r) (suc (getD r 0 0)) && (begins T r && standTest (drop (length r) T) rs)
 
-stand-at : (S : List ℕ) (a : ℕ) (T : List ℕ) (rs : List (List ℕ)) → standTest S a (drop a T) rs ≡ true → (k : ℕ)
-    → begins (drop (256 * getD S (2 * k) 0 + getD S (2 * k + 1) 0) T) (getD rs k []) ≡ true
-unfolding standTest begins
-stand-at S a T [] h k = refl
-stand-at [] a T (r ∷ rs) h k = absurd (true≢false (sym h))
-stand-at (hi ∷ []) a T (r ∷ rs) h k = absurd (true≢false (sym h))
-stand-at (hi ∷ lo ∷ S) a T (r ∷ rs) h zero =
-    ap (λ (x : ℕ). begins (drop x T) r) (eqb-true (256 * hi + lo) a (and-left (eqb (256 * hi + lo) a) _ h))
-    ∙ and-left (begins (drop a T) r) _ (and-right (eqb (256 * hi + lo) a) _ h)
-stand-at (hi ∷ lo ∷ S) a T (r ∷ rs) h (suc k) =
-    let e : 2 * suc k ≡ suc (suc (2 * k)) = omega arith in
-    let f : 2 * suc k + 1 ≡ suc (suc (2 * k + 1)) = omega arith in
-    ap₂ (λ (x y : ℕ). begins (drop (256 * getD (hi ∷ lo ∷ S) x 0 + getD (hi ∷ lo ∷ S) y 0) T) (getD rs k [])) e f
-    ∙ stand-at S (a + length r) T rs
-    (ap (λ (x : List ℕ). standTest S (a + length r) x rs) (sym (drop-drop (length r) a T))
-    ∙ and-right (begins (drop a T) r) _ (and-right (eqb (256 * hi + lo) a) _ h)) k
+-- the first of so many lists passed before the others
+behind-first : (T : List ℕ) (a n : ℕ) → behind T a (suc n) ≡ behind T (a + 1 + entryOf T a) n
+unfolding behind
+behind-first T a zero = refl
+behind-first T a (suc n) = ap (λ (x : ℕ). x + 1 + entryOf T x) (behind-first T a n)
 
-unfoldable pub standAt : List ℕ → List ℕ → ℕ → List (List ℕ) → Bool
-standAt S T a rs = standTest S a (drop a T) rs
+stand-at : (T : List ℕ) (a : ℕ) (rs : List (List ℕ)) → standTest (drop a T) rs ≡ true → (k : ℕ) → begins (drop (behind T a k) T) (getD rs k []) ≡ true
+unfolding standTest begins behind entryOf
+stand-at T a [] h k = refl
+stand-at T a (r ∷ rs) h zero = and-left (begins (drop a T) r) _ (and-right (eqb (length r) (suc (getD r 0 0))) _ h)
+stand-at T a (r ∷ rs) h (suc k) =
+    let t = and-right (eqb (length r) (suc (getD r 0 0))) _ h in
+    let e : length r ≡ suc (getD r 0 0) = eqb-true (length r) _ (and-left (eqb (length r) (suc (getD r 0 0))) _ h) in
+    let f : entryOf T a ≡ getD r 0 0 = read t (omega (arith, e)) in
+    let g : a + 1 + entryOf T a ≡ a + length r = omega (arith, e, f) in
+    ap (λ (x : ℕ). begins (drop x T) (getD rs k [])) (behind-first T a k ∙ ap (λ (x : ℕ). behind T x k) g)
+    ∙ stand-at T (a + length r) rs
+    (ap (λ (x : List ℕ). standTest x rs) (sym (drop-drop (length r) a T)) ∙ and-right (begins (drop a T) r) _ t) k
+  where
+    read : begins (drop a T) r && standTest (drop (length r) (drop a T)) rs ≡ true → 0 < length r → entryOf T a ≡ getD r 0 0
+    read t l =
+        ap (λ (x : ℕ). getD T x 0) (sym (add-zero a)) ∙ sym (getD-drop a T 0 0) ∙ begins-at (drop a T) r (and-left (begins (drop a T) r) _ t) 0 l
 
--- those of a size, whose first is number z
-unfoldable pub standFrom : List ℕ → List ℕ → ℕ → List (List ℕ) → Bool
-standFrom S T z rs = standAt (drop (2 * z) S) T (256 * getD S (2 * z) 0 + getD S (2 * z + 1) 0) rs
+-- eight at a time, of up to 64, where another table says from entry z on
+unfoldable pub eightsTest : List ℕ → List ℕ → ℕ → List (List ℕ) → Bool
+eightsTest S T z rs = every (λ g. standTest (drop (wideEntryOf S (z + g)) T) (take 8 (drop (8 * g) rs))) 8
 
-part-stands : (S T : List ℕ) (z : ℕ) (rs : List (List ℕ)) → standFrom S T z rs ≡ true → (k : ℕ) → begins (drop (wideEntryOf S (z + k)) T) (getD rs k []) ≡ true
-unfolding standFrom standAt wideEntryOf entryOf
-part-stands S T z rs h k =
-    let e : 2 * (z + k) ≡ 2 * z + 2 * k = omega arith in
-    let f : 2 * (z + k) + 1 ≡ 2 * z + (2 * k + 1) = omega arith in
-    ap₂ (λ (x y : ℕ). begins (drop (256 * x + y) T) (getD rs k [])) (ap (λ (x : ℕ). getD S x 0) e ∙ sym (getD-drop (2 * z) S (2 * k) 0))
-    (ap (λ (x : ℕ). getD S x 0) f ∙ sym (getD-drop (2 * z) S (2 * k + 1) 0))
-    ∙ stand-at (drop (2 * z) S) (256 * getD S (2 * z) 0 + getD S (2 * z + 1) 0) T rs h k
+eights-at : (S T : List ℕ) (z : ℕ) (rs : List (List ℕ)) → eightsTest S T z rs ≡ true → (k : ℕ) → k < 64
+    → begins (drop (behind T (wideEntryOf S (z + k / 8)) (k % 8)) T) (getD rs k []) ≡ true
+unfolding eightsTest
+eights-at S T z rs h k u =
+    let e : 8 * (k / 8) + k % 8 ≡ k = omega arith in
+    ap (begins (drop (behind T (wideEntryOf S (z + k / 8)) (k % 8)) T))
+    (ap (λ (x : ℕ). getD rs x []) (sym e) ∙ sym (getD-drop (8 * (k / 8)) rs (k % 8) []) ∙ sym (getD-take 8 (drop (8 * (k / 8)) rs) (k % 8) [] (omega arith)))
+    ∙ stand-at T (wideEntryOf S (z + k / 8)) (take 8 (drop (8 * (k / 8)) rs))
+    (every-at (λ g. standTest (drop (wideEntryOf S (z + g)) T) (take 8 (drop (8 * g) rs))) 8 h (k / 8) (omega arith)) (k % 8)
 
+-- those of a size
 unfoldable pub madePart : List ℕ → List ℕ → ℕ → ℕ → Bool
-madePart S T s l = standFrom S T (64 * sizeIndex s l) (gone madeLeft 0 (quickly s l))
+madePart S T s l = eightsTest S T (8 * sizeIndex s l) (gone madeLeft 0 (quickly s l))
 
 unfoldable pub madeTest : List ℕ → List ℕ → Bool
 madeTest S T = sizesTest (madePart S T)
@@ -369,11 +372,11 @@ pub made-in : (s l i : ℕ) → sized s l ≡ true → (S T : List ℕ) → 1 �
 unfolding madeTest madePart
 made-in s l i size S T li ui h =
     let e : suc (i - 1) ≡ i = omega arith in
-    let D = drop (wideEntryOf S (64 * sizeIndex s l + (i - 1))) T in
+    let D = drop (behind T (wideEntryOf S (8 * sizeIndex s l + (i - 1) / 8)) ((i - 1) % 8)) T in
     record {
       stands = begins-is D (counted (affineFamily s l .made i))
           (ap (begins D) (sym (made-row s l size (i - 1) (omega arith) ∙ ap (λ (x : ℕ). counted (affineFamily s l .made x)) e))
-          ∙ part-stands S T (64 * sizeIndex s l) (gone madeLeft 0 (quickly s l)) (sizes-at s l size (madePart S T) h) (i - 1));
+          ∙ eights-at S T (8 * sizeIndex s l) (gone madeLeft 0 (quickly s l)) (sizes-at s l size (madePart S T) h) (i - 1) (omega (arith, rows-high s l size)));
     }
 
 -- a list that stands behind its length at the front of another
@@ -392,9 +395,12 @@ module _ (D M : List ℕ) (h : take (suc (length M)) D ≡ counted M) where
   counted-room = omega (arith, ap length h, length-take (suc (length M)) D)
 
 -- what the code reads of the tables
-module _ (s l : ℕ) {i a z n : ℕ} {S T : List ℕ} (I : MadeIn s l i S T) (f : a ≡ wideEntryOf S z) (g : z ≡ 64 * sizeIndex s l + (i - 1)) (c : n ≡ entryOf T a) where
+module _ (s l : ℕ) {i a b z n : ℕ} {S T : List ℕ} (I : MadeIn s l i S T) (e : a ≡ behind T b ((i - 1) % 8)) (f : b ≡ wideEntryOf S (8 * z + (i - 1) / 8))
+    (g : z ≡ sizeIndex s l) (c : n ≡ entryOf T a) where
   here : take (suc (length (affineFamily s l .made i))) (drop a T) ≡ counted (affineFamily s l .made i)
-  here = ap (λ (x : ℕ). take (suc (length (affineFamily s l .made i))) (drop x T)) (f ∙ ap (wideEntryOf S) g) ∙ I .stands
+  here =
+      ap (λ (x : ℕ). take (suc (length (affineFamily s l .made i))) (drop x T)) (e ∙ ap (λ (x : ℕ). behind T x ((i - 1) % 8)) (f ∙ ap (λ (x : ℕ). wideEntryOf S (8 * x + (i - 1) / 8)) g))
+      ∙ I .stands
 
   made-count : n ≡ length (affineFamily s l .made i)
   unfolding entryOf

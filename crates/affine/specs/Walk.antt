@@ -3,7 +3,7 @@
 use mathlib.Core.Path.{_≡_}
 use mathlib.Core.Bool.{true, false}
 use mathlib.Core.List.{List, [], _∷_, _++_}
-use Prim.Native.Nat.{ℕ, zero, suc, _+_, _-_, _*_, _^_}
+use Prim.Native.Nat.{ℕ, zero, suc, _+_, _-_, _*_, _/_, _%_, _^_}
 use lib.Dec.{eqb}
 use lib.Bits.{bitXor}
 use lib.ListN.{length, getD, take, drop}
@@ -63,7 +63,13 @@ wideEntryOf t k = 256 * entryOf t (2 * k) + entryOf t (2 * k + 1)
 unfoldable pub sizeIndex : ℕ → ℕ → ℕ
 sizeIndex s l = if eqb s 2 then l - 3 else l
 
--- what two tables say of row i: the one, where its part begins in the other, and that, of how many rows it is made and of which
+-- the place behind n lists of a table, each behind its length, from place a on
+unfoldable pub behind : List ℕ → ℕ → ℕ → ℕ
+behind T a zero = a
+behind T a (suc n) = let b = behind T a n in b + 1 + entryOf T b
+
+-- what two tables say of row i: the one, where the lists of every eighth row begin in the other, and that, of how many rows it is made and of
+-- which
 pub record MadeIn (s l i : ℕ) (S T : List ℕ) : Type 0 where
-  pub stands : take (suc (length (affineFamily s l .made i))) (drop (wideEntryOf S (64 * sizeIndex s l + (i - 1))) T)
+  pub stands : take (suc (length (affineFamily s l .made i))) (drop (behind T (wideEntryOf S (8 * sizeIndex s l + (i - 1) / 8)) ((i - 1) % 8)) T)
       ≡ length (affineFamily s l .made i) ∷ affineFamily s l .made i

@@ -3,15 +3,15 @@ use Rattle.fips197.proofs.Kit.{refl, needs}
 use Rattle.affine.specs.Field.{polynomial, elementTimesX, productOver, product, elementPower, elementInverse}
 use Rattle.affine.specs.Lines.{points, xOf, yOf, onLine, chosen, affineItems, isRow}
 use Rattle.affine.specs.Elimination.{has, greatest, add, reduced, reducedBy, remainderOf, next}
-use Rattle.affine.specs.Walk.{courseOf, placeOn, chosenAt, dual, throughCount, sizeIndex}
+use Rattle.affine.specs.Walk.{courseOf, placeOn, chosenAt, dual, throughCount, sizeIndex, entryOf, wideEntryOf}
 use Rattle.affine.proofs.Listings.{passing}
 use Rattle.affine.proofs.Eliminated.{setUp, cardAlong, rowSet, goThrough, quickly}
-use Rattle.affine.proofs.Tables.{begins, gone, madeLeft, standTest, standAt, standFrom, madePart, madeTest, made-in}
+use Rattle.affine.proofs.Tables.{begins, gone, madeLeft, standTest, eightsTest, madePart, madeTest, made-in}
 use Rattle.affine.proofs.table.made_of.Statement.{statement}
 use Rattle.affine.proofs.table.made_of.Tie as tie
 
 copy-made-requires : tie.Need-copy-made-requires
-unfolding madeTest madePart standFrom standAt standTest madeLeft begins gone passing setUp cardAlong rowSet goThrough quickly courseOf placeOn chosenAt dual throughCount sizeIndex points xOf yOf onLine chosen affineItems isRow polynomial elementTimesX productOver product elementPower elementInverse has greatest add reduced reducedBy remainderOf next
+unfolding madeTest madePart eightsTest standTest wideEntryOf entryOf madeLeft begins gone passing setUp cardAlong rowSet goThrough quickly courseOf placeOn chosenAt dual throughCount sizeIndex points xOf yOf onLine chosen affineItems isRow polynomial elementTimesX productOver product elementPower elementInverse has greatest add reduced reducedBy remainderOf next
 copy-made-requires c κs =
     let b = c .before .before .before .before in
     let p = b .pre .1 in
