@@ -16,7 +16,7 @@ use Rattle.sums.specs.Adding.{sumIn, Holds, Added}
 use Rattle.tagging.specs.declared.Keys.{Keys}
 use Rattle.tagging.specs.Tagging.{keysIn, tagSum, fileOf, tagFile}
 use Rattle.tagging.proofs.Writing.{tags-length, file-same}
-use Rattle.scheme.specs.Calls.{stampIn, tagsFor, sumTagged, replacedSum}
+use Rattle.scheme.specs.Calls.{stampIn, tagsFor, sumTagged, tagDifference, replacedSum}
 
 -- ---- Tag
 
@@ -66,7 +66,8 @@ sums-read key f tags before after t hk eg et fits e =
 pub differences-made : (keys : Keys) (s f before tagged after : List ℕ) (st : Stamp) (c : ℕ) → st ≡ stampIn (versionOf f) s → c ≡ codeOf f
     → Holds (familyOf (codeOf f) .tags) (sumTagged keys f) before tagged
     → Holds (familyOf c .tags) (λ k. sumIn tagged k ⊕ tagSum keys st c (item s) (itemCount s) k) tagged after
-    → Holds (familyOf (codeOf f) .tags) (λ k. sumTagged keys f k ⊕ tagSum keys (stampIn (versionOf f) s) (codeOf f) (item s) (itemCount s) k) before after
+    → Holds (familyOf (codeOf f) .tags) (tagDifference keys s f) before after
+unfolding tagDifference
 differences-made keys s f before tagged after st c es ec T A =
     let H = subst (λ (x : ℕ). Holds (familyOf x .tags) (λ k. sumIn tagged k ⊕ tagSum keys st x (item s) (itemCount s) k) tagged after) ec A in
     record {

@@ -1,6 +1,5 @@
 // The calls of document 01 on whole messages: Tag, Verify, Report and Replace (000, section 4.3). Any arguments, of any length and value:
 // each call does its work or refuses by number, and a refused call leaves the buffer that it was lent as it was.
-use cipher::aes;
 use cipher::cmac;
 use cipher::engine;
 use cipher::engine::Tables;
@@ -15,19 +14,19 @@ ghost use mathlib.Core.Path.{_≡_};
 ghost use mathlib.Core.List.{_++_};
 ghost use Prim.Native.Nat.{_*_, _≤_};
 ghost use lib.ListN.{length, drop};
-ghost use Rattle.blocks.specs.Block.{_⊕_, same};
+ghost use Rattle.blocks.specs.Block.{same};
 ghost use Rattle.cipher.specs.Engine.{EngineTables};
 ghost use Rattle.incidence.specs.Report.{named, numberNamed, disagreeing, answer};
 ghost use Rattle.sizes.specs.Sizes.{familyOf};
 ghost use Rattle.stamp.specs.Front.{versionOf};
 ghost use Rattle.files.specs.Message.{itemsAt, itemCount, item, Sound};
-ghost use Rattle.files.specs.TagFile.{fileSize, codeOf, headOf, tagsIn, Formed};
+ghost use Rattle.files.specs.TagFile.{fileSize, codeOf, countOf, headOf, tagsIn, Formed};
 ghost use Rattle.sums.specs.Adding.{Holds};
-ghost use Rattle.decoding.specs.Decoding.{marksOf};
-ghost use Rattle.tagging.specs.Tagging.{keysIn, tagSum, fileOf, tagFile, tagHead};
+ghost use Rattle.decoding.specs.Decoding.{agreesFrom, marksOf};
+ghost use Rattle.tagging.specs.Tagging.{keysIn, fileOf, tagFile, tagHead};
 ghost use Rattle.checks.specs.Refused.{tagRefusal, verifyRefusal, reportRefusal, replaceRefusal};
-ghost use Rattle.checks.specs.Passed.{Taggable, Comparable, Reportable, Replaceable};
-ghost use Rattle.scheme.specs.Calls.{tagWrites, stampIn, tagsFor, verifyYes, sumTagged, agrees, reportWrites, reportAnswer, reportNamed, reportRows, replacedSum, replaceWrites};
+ghost use Rattle.checks.specs.Passed.{Taggable, Comparable, Replaceable};
+ghost use Rattle.scheme.specs.Calls.{tagWrites, stampIn, tagsFor, verifyYes, sumTagged, tagDifference, reportWrites, reportAnswer, reportNamed, reportRows, replacedSum, replaceWrites};
 ghost use Rattle.scheme.specs.Claim.{Claim};
 
 // Writes the tag file of a message that is not refused to the front of out.
@@ -90,7 +89,7 @@ fn tags_equal(t: &Tables, keys: &[u8], s: &[u8], f: &[u8]) -> bool
     let mut sums = [0u8; sums::TAGS_MOST];
     tagging::add_items(t, head.code, k, stamp_in(written.version, s), s, &mut sums);
     let mut tags = [0u8; sums::TAGS_MOST];
-    keyed::write_tags(t, aes::key_expansion(tag_key), &sums, n, &mut tags);
+    keyed::write_tags(t, engine::expand(t, tag_key), &sums, n, &mut tags);
     check::same(&tags[0..end], tagfile::tags_in(f))
 }
 
@@ -125,7 +124,7 @@ fn read_sums(t: &Tables, keys: Keys, f: &[u8], sums: &mut [u8])
     let key = keys.tag;
     let head = tagfile::head_of(f);
     let n = sizes::tags(head.code);
-    keyed::write_sums(t, aes::key_expansion(key), tagfile::tags_in(f), n, sums);
+    keyed::write_sums(t, engine::expand(t, key), tagfile::tags_in(f), n, sums);
 }
 
 // Writes the file with the old item's hash and the new one's added to the sums of the item's tagged rows, sealed, to the front of out.
@@ -188,14 +187,13 @@ pub struct Reported {
     pub rows: usize,
 }
 
-// Fills the front of sums with the differences of the tags: of each, the sum had back from it and the message's, XORed; what is behind them
-// stays.
+// Fills the front of sums with the differences of the tags; what is behind them stays.
 fn read_differences(t: &Tables, keys: Keys, s: &[u8], f: &[u8], sums: &mut [u8])
     requires { ⌜ EngineTables (now t) ⌝ }
     requires { ⌜ Sound (now s) ⌝ }
     requires { ⌜ Formed (now f) ⌝ }
     requires { ⌜ 16 * familyOf (codeOf (now f)) .tags ≤ length (now sums) ⌝ }
-    ensures { λ _. ⌜ Holds (familyOf (codeOf (now (f .entry))) .tags) (λ k. sumTagged keys (now (f .entry)) k ⊕ tagSum keys (stampIn (versionOf (now (f .entry))) (now (s .entry))) (codeOf (now (f .entry))) (item (now (s .entry))) (itemCount (now (s .entry))) k) (now (sums .entry)) (now (sums .exit)) ⌝ }
+    ensures { λ _. ⌜ Holds (familyOf (codeOf (now (f .entry))) .tags) (tagDifference keys (now (s .entry)) (now (f .entry))) (now (sums .entry)) (now (sums .exit)) ⌝ }
 {
     let head = tagfile::head_of(f);
     let written = head.stamp;
@@ -203,21 +201,35 @@ fn read_differences(t: &Tables, keys: Keys, s: &[u8], f: &[u8], sums: &mut [u8])
     tagging::add_items(t, head.code, keys, stamp_in(written.version, s), s, sums);
 }
 
-// Decodes a message that is not refused against the tag file, by the differences of their sums.
-fn decode_files(t: &Tables, keys: &[u8], s: &[u8], f: &[u8], marks: &mut [u8]) -> Decoded
-    requires { ⌜ EngineTables (now t) ⌝ }
-    requires { ⌜ Reportable (now keys) (now s) (now f) (length (now marks)) ⌝ }
-    ensures written { λ _. ⌜ now (marks .exit) ≡ marksOf (named (familyOf (codeOf (now (f .entry)))) (agrees (keysIn (now (keys .entry))) (now (s .entry)) (now (f .entry)))) (itemCount (now (s .entry))) ++ drop (itemCount (now (s .entry))) (now (marks .entry)) ⌝ }
-    ensures answer { λ r. ⌜ r .answer ≡ answer (familyOf (codeOf (now (f .entry)))) (agrees (keysIn (now (keys .entry))) (now (s .entry)) (now (f .entry))) (itemCount (now (s .entry))) ⌝ }
-    ensures named { λ r. ⌜ r .named ≡ numberNamed (familyOf (codeOf (now (f .entry)))) (agrees (keysIn (now (keys .entry))) (now (s .entry)) (now (f .entry))) (itemCount (now (s .entry))) ⌝ }
-    ensures rows { λ r. ⌜ r .rows ≡ disagreeing (agrees (keysIn (now (keys .entry))) (now (s .entry)) (now (f .entry))) (familyOf (codeOf (now (f .entry))) .rows) ⌝ }
+// Refuses as Report does, or fills the front of sums with the differences of the tags; what is behind them stays. The tables are taken here
+// and are gone when it returns, before the rows are decoded.
+fn compare(keys: &[u8], s: &[u8], f: &[u8], room: usize, sums: &mut [u8]) -> Refusal
+    requires { ⌜ 16 * familyOf (codeOf (now f)) .tags ≤ length (now sums) ⌝ }
+    ensures refused { λ r. ⌜ r ≡ reportRefusal (now (keys .entry)) (now (s .entry)) (now (f .entry)) room ⌝ }
+    ensures differences { λ r. ⌜ (r .number ≡ 0 → Holds (familyOf (codeOf (now (f .entry))) .tags) (tagDifference (keysIn (now (keys .entry))) (now (s .entry)) (now (f .entry))) (now (sums .entry)) (now (sums .exit))) ⌝ }
 {
-    let k = tagging::keys_in(keys);
+    let t = engine::tables();
+    let refused = checks::report_refusal(&t, keys, s, f, room);
+    if refused.number != 0 {
+        return refused;
+    }
+    read_differences(&t, tagging::keys_in(keys), s, f, sums);
+    refused
+}
+
+// Decodes the items of a message from the differences of the tags of a file, which stand at the front of sums.
+fn decode_files(s: &[u8], f: &[u8], sums: &mut [u8], marks: &mut [u8]) -> Decoded
+    requires { ⌜ Sound (now s) ⌝ }
+    requires { ⌜ Formed (now f) ⌝ }
+    requires { ⌜ (itemCount (now s) ≡ countOf (now f)) × (itemCount (now s) ≤ length (now marks)) ⌝ }
+    requires { ⌜ 16 * familyOf (codeOf (now f)) .rows ≤ length (now sums) ⌝ }
+    ensures written { λ _. ⌜ now (marks .exit) ≡ marksOf (named (familyOf (codeOf (now (f .entry)))) (agreesFrom (familyOf (codeOf (now (f .entry)))) (now (sums .entry)))) (itemCount (now (s .entry))) ++ drop (itemCount (now (s .entry))) (now (marks .entry)) ⌝ }
+    ensures answer { λ r. ⌜ r .answer ≡ answer (familyOf (codeOf (now (f .entry)))) (agreesFrom (familyOf (codeOf (now (f .entry)))) (now (sums .entry))) (itemCount (now (s .entry))) ⌝ }
+    ensures named { λ r. ⌜ r .named ≡ numberNamed (familyOf (codeOf (now (f .entry)))) (agreesFrom (familyOf (codeOf (now (f .entry)))) (now (sums .entry))) (itemCount (now (s .entry))) ⌝ }
+    ensures rows { λ r. ⌜ r .rows ≡ disagreeing (agreesFrom (familyOf (codeOf (now (f .entry)))) (now (sums .entry))) (familyOf (codeOf (now (f .entry))) .rows) ⌝ }
+{
     let head = tagfile::head_of(f);
-    let n = message::item_count(s);
-    let mut sums = [0u8; sums::ROWS_MOST];
-    read_differences(t, k, s, f, &mut sums);
-    decoding::decode_tags(head.code, n, &mut sums, marks)
+    decoding::decode_tags(head.code, message::item_count(s), sums, marks)
 }
 
 // Report: writes a mark for each item of the message, 1 named and 0 cleared, to the front of marks; the bytes behind stay.
@@ -231,8 +243,8 @@ pub fn report(keys: &[u8], message: &[u8], file: &[u8], marks: &mut [u8]) -> Rep
     ensures rows { λ r. ⌜ r .rows ≡ reportRows (now (keys .entry)) (now (message .entry)) (now (file .entry)) (now (marks .entry)) ⌝ }
     ensures detection { λ r. ⌜ (r .refused .number ≡ 0 → Claim (now (keys .entry)) (now (message .entry)) (now (file .entry)) (now (marks .exit)) (r .named) (r .answer)) ⌝ }
 {
-    let t = engine::tables();
-    let refused = checks::report_refusal(&t, keys, message, file, marks.len());
+    let mut sums = [0u8; sums::ROWS_MOST];
+    let refused = compare(keys, message, file, marks.len(), &mut sums);
     if refused.number != 0 {
         return Reported {
             refused: refused,
@@ -241,7 +253,7 @@ pub fn report(keys: &[u8], message: &[u8], file: &[u8], marks: &mut [u8]) -> Rep
             rows: 0,
         };
     }
-    let found = decode_files(&t, keys, message, file, marks);
+    let found = decode_files(message, file, &mut sums, marks);
     let said = found.answer;
     Reported {
         refused: refused,

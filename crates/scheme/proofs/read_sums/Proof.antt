@@ -38,7 +38,7 @@ returns c =
     let t = g .before .before in
     let d = t .before .before .before .before .before in
     sums-read (d .args .keys .tag) (d .args .f .now) (g .tags-in .result .now) (d .args .sums .now) _ _ (key-long d) (g .tags-in .ensures) (tags-are t) (omega (arith, tags-are t, d .pre .1 .1))
-    (sums-expanded (d .args .keys .tag) _ _ _ _ _ (g .before .key-expansion .ensures) (c .before .before .write-sums .ensures))
+    (sums-expanded (d .args .keys .tag) _ _ _ _ _ (g .before .expand .ensures) (c .before .before .write-sums .ensures))
 
 pub read-sums-spec : {M : Type 1} → statement M
 read-sums-spec =

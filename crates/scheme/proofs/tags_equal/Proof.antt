@@ -63,7 +63,7 @@ write-tags-requires c κs =
 part-same-end : tie.Need-part-same-end
 part-same-end c =
     let w = c .before .before in
-    let e = tags-expanded (keyed w .keys-in .result .tag) _ _ _ _ _ (w .before .before .before .key-expansion .ensures) (w .write-tags .ensures) in
+    let e = tags-expanded (keyed w .keys-in .result .tag) _ _ _ _ _ (w .before .before .before .expand .ensures) (w .write-tags .ensures) in
     omega (arith, few (counted w), written-long (keyed w .keys-in .result .tag) _ (zeros 1312) _ _ (key-long w) (few (counted w)) e)
 
 tags-in-requires : tie.Need-tags-in-requires
@@ -77,7 +77,7 @@ returns c =
     let t = counted w in
     let k = keyed w in
     let d = k .before .before .before .before in
-    let e = tags-expanded (k .keys-in .result .tag) _ _ _ _ _ (w .before .before .before .key-expansion .ensures) (w .write-tags .ensures) in
+    let e = tags-expanded (k .keys-in .result .tag) _ _ _ _ _ (w .before .before .before .expand .ensures) (w .write-tags .ensures) in
     let g = t .before .before .head-of .result in
     let st = summed w .before .before .stamp-in .result in
     let sums = summed-zeros (familyOf (g .code) .tags) (tagSum (k .keys-in .result) st (g .code) (item (d .args .s .now)) (itemCount (d .args .s .now))) _ _
