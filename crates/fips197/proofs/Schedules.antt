@@ -1,5 +1,5 @@
 -- The key schedule: its length, its bytes and its round keys, and what the code's loop keeps of it.
-use Rattle.fips197.proofs.Kit.{_≡_, refl, sym, ap, ap₂, _∙_, Bool, true, false, List, [], _∷_, _++_, map, ℕ, zero, suc, _+_, _-_, _*_, _/_, _%_, _≤_, _<_, zero-lt-suc, add-zero, arith, eqb, length, getD, set, take, drop, length-append, length-take, length-drop, take-append-drop, take-append-le, drop-append-le, take-at, take-all, drop-at, drop-drop, drop-append-add, append-assoc, add-one, eq-eqb, ne-eqb}
+use Rattle.fips197.proofs.Kit.{_≡_, refl, sym, ap, ap₂, _∙_, Bool, true, false, List, [], _∷_, _++_, map, ℕ, zero, suc, _+_, _-_, _*_, _/_, _%_, _≤_, _<_, zero-lt-suc, arith, eqb, length, getD, take, drop, length-append, length-take, length-drop, take-append-le, drop-append-le, take-at, take-all, drop-at, drop-drop, drop-append-add, append-assoc, add-one, eq-eqb, ne-eqb}
 use Rattle.fips197.specs.Block.{if_then_else_, Bytes, Block, _⊕_}
 use Rattle.fips197.specs.Field.{power, powerBy, _•_}
 use Rattle.fips197.specs.Aes.{sbox, word, rotWord, subWord, rcon, temp, expanded, keyExpansion, roundKey}
@@ -9,7 +9,7 @@ use Rattle.fips197.proofs.Xor.{⊕-length, ⊕-bytes, byte-at, append-b
 use Rattle.fips197.proofs.Loop.{placed-long}
 use Rattle.fips197.proofs.TableRules.{sbox-lt}
 use Rattle.fips197.proofs.Mixing.{product-lt}
-use Rattle.fips197.proofs.States.{elements-of, bytes-at, words-at}
+use Rattle.fips197.proofs.States.{bytes-at, words-at}
 
 -- ---- words
 

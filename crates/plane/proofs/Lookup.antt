@@ -5,7 +5,7 @@ use Rattle.blocks.proofs.Xor.{same-true}
 use Rattle.incidence.proofs.Booleans.{and-left, and-right}
 use Rattle.incidence.proofs.Counting.{every, every-at}
 use Rattle.plane.specs.Table.{itemCounts, planeItems, tagCounts, planeTags, limits, planeLimit, differenceLists, differences, patternLists, planePattern}
-use Rattle.plane.specs.Walk.{joined, above}
+use Rattle.plane.specs.Walk.{joined}
 
 -- below five or not
 pub five : {A : Type 0} (s : ℕ) → (s < 5 → A) → (5 ≤ s → A) → A
@@ -165,18 +165,3 @@ some-low (suc s) h = omega arith
 
 pub some-high : (s : ℕ) → 1 ≤ planeItems s → s ≤ 4
 some-high s h = five s (λ u. omega arith) (λ u. absurd (omega (arith, no-items s u)))
-
--- the lists rise, whatever s
-risesTest : ℕ → Bool
-risesTest s = above 0 (differences s)
-
-rise-test : every risesTest 5 ≡ true
-unfolding risesTest differences differenceLists
-rise-test = refl
-
-pub differences-rise : (s : ℕ) → above 0 (differences s) ≡ true
-unfolding risesTest
-differences-rise s = five s (rises s) (λ u. ap (above 0) (no-differences s u))
-  where
-    rises : (s : ℕ) → s < 5 → risesTest s ≡ true
-    rises = every-at risesTest 5 rise-test

@@ -1,5 +1,5 @@
 -- Rising lists of numbers: how many members are at most x, and sums over a cycle of m numbers of a test that repeats.
-use Rattle.fips197.proofs.Kit.{_≡_, refl, sym, ap, ap₂, _∙_, Bool, true, false, _&&_, _||_, List, [], _∷_, ℕ, zero, suc, _+_, _-_, _≤_, _<_, add-suc, zero-add, add-one, arith, eqb, ltb, leb, length, getD, ltb-true, ltb-false, leb-true, leb-false, le-leb, lt-leb, eqb-true, eqb-false, eq-eqb, ne-eqb}
+use Rattle.fips197.proofs.Kit.{_≡_, refl, sym, ap, ap₂, _∙_, Bool, true, false, _&&_, _||_, List, [], _∷_, ℕ, zero, suc, _+_, _-_, _≤_, _<_, add-suc, zero-add, add-one, arith, eqb, ltb, leb, length, getD, drop, drop-cons, ltb-true, leb-true, leb-false, le-leb, lt-leb, eqb-true, eqb-false, eq-eqb, ne-eqb}
 use Rattle.incidence.specs.Count.{indicator, countUpTo}
 use Rattle.incidence.proofs.Booleans.{and-left, and-right, or-first, or-second}
 use Rattle.incidence.proofs.Counting.{count-ext}
@@ -202,19 +202,16 @@ count-down g a (suc n) =
 pub count-back : (g : ℕ → Bool) (n : ℕ) → countUpTo (λ i. g (n + 1 - i)) n ≡ countUpTo g n
 count-back g n = rw (add-one n) (simp zero-add at (count-down g 0 n))
 
--- ---- which side of a member a rank is on
+-- ---- the members looked at one after the other
 
-module _ (b : ℕ) (D : List ℕ) (h : above b D ≡ true) (x k : ℕ) (l : k < length D) where
-  pub rank-above : getD D k 0 ≤ x → k < rank D x
-  rank-above e = go (ltb k (rank D x)) refl
-    where
-      go : (t : Bool) → ltb k (rank D x) ≡ t → k < rank D x
-      go true q = ltb-true k (rank D x) q
-      go false q = absurd (omega (arith, rank-least b D h x k l (ltb-false k (rank D x) q)))
+module _ (D : List ℕ) (x k f : ℕ) {v : ℕ} (l : k < length D) (read : v ≡ getD D k 0) (so-far : f + rank (drop k D) x ≡ rank D x) where
+  next : (t : Bool) → leb v x ≡ t → indicator t + rank (drop (k + 1) D) x ≡ rank (drop k D) x
+  next t e =
+      ap₂ (λ (b : Bool) (n : ℕ). indicator b + rank (drop n D) x) (sym e ∙ ap (λ (y : ℕ). leb y x) read) (add-one k)
+      ∙ sym (ap (λ (L : List ℕ). rank L x) (drop-cons D k 0 l))
 
-  pub rank-below : x < getD D k 0 → rank D x ≤ k
-  rank-below e = go (ltb k (rank D x)) refl
-    where
-      go : (t : Bool) → ltb k (rank D x) ≡ t → rank D x ≤ k
-      go true q = absurd (omega (arith, rank-most b D h x k l (ltb-true k (rank D x) q)))
-      go false q = ltb-false k (rank D x) q
+  pub rank-more : v ≤ x → f + 1 + rank (drop (k + 1) D) x ≡ rank D x
+  rank-more h = omega (arith, next true (le-leb v x h))
+
+  pub rank-same : x < v → f + rank (drop (k + 1) D) x ≡ rank D x
+  rank-same h = omega (arith, next false (lt-leb v x h))

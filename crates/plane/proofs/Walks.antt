@@ -1,5 +1,5 @@
 -- Where the rows of an item and the items of a row stand, in rising order, by ranks in the difference list; the first rows are the tags.
-use Rattle.fips197.proofs.Kit.{_≡_, refl, sym, ap, _∙_, subst, Bool, true, false, _&&_, List, [], map, ℕ, suc, _+_, _-_, _≤_, _<_, _%_, add-mod-right, mod-eq-of-lt, arith, ltb, leb, length, getD, length-map, lt-ltb, le-ltb, le-leb, lt-leb}
+use Rattle.fips197.proofs.Kit.{_≡_, refl, sym, ap, _∙_, subst, Bool, true, false, _&&_, List, [], _++_, map, ℕ, suc, _+_, _-_, _≤_, _<_, _%_, add-mod-right, mod-eq-of-lt, arith, ltb, leb, length, getD, take, drop, length-append, length-drop, length-take-le, getD-append-add, List·getD-append, getD-take, getD-drop, ext-getD, ltb-true, ltb-false, length-map, lt-ltb, le-ltb, le-leb, lt-leb}
 use Rattle.blocks.specs.Block.{if_then_else_}
 use Rattle.blocks.proofs.Loop.{map-at}
 use Rattle.incidence.specs.Count.{indicator, countUpTo, listed, inside}
@@ -227,6 +227,61 @@ module _ {s i turn : ℕ} {D : List ℕ} (W : Walk s i D turn) where
           sym (item-by-ahead (planeItems s) (planeTags s) (planeLimit s) D (planePattern s) walk-rules i (W .low) (W .high)
           k (turn + k - length D) e ahead-place w u (omega (arith, W .place, walk-rules .size)))
           ∙ ap (λ (L : List ℕ). getD L k 0) items-are
+
+  -- the list from place `turn` on and the list before it, each moved, are the items
+  module _ {A B : List ℕ} {m : ℕ} (o : m ≡ planeItems s) (ea : A ≡ drop turn D) (eb : B ≡ take turn D) where
+    round-long : length A ≡ length D - turn
+    round-long = ap length ea ∙ length-drop turn D
+
+    ahead-long : length B ≡ turn
+    ahead-long = ap length eb ∙ length-take-le turn D walk-turn
+
+    round-read : (k : ℕ) → getD A k 0 ≡ getD D (turn + k) 0
+    round-read k = ap (λ (L : List ℕ). getD L k 0) ea ∙ getD-drop turn D k 0
+
+    pub round-all : (k : ℕ) → k < length A → m ≤ i + getD A k 0
+    round-all k h = round-past (omega (arith, round-long, walk-turn)) (omega (arith, round-long)) (round-read k) o
+
+    first : List ℕ
+    first = map (λ e. i + e - m) A
+
+    others : List ℕ
+    others = map (λ e. i + e - 0) B
+
+    first-long : length first ≡ length D - turn
+    unfolding first
+    first-long = length-map A (λ e. i + e - m) ∙ round-long
+
+    others-long : length others ≡ turn
+    unfolding others
+    others-long = length-map B (λ e. i + e - 0) ∙ ahead-long
+
+    parts-at : (k : ℕ) → k < length D → getD (first ++ others) k 0 ≡ getD (itemsOf (plane s) i) k 0
+    unfolding first others
+    parts-at k h = go (ltb (turn + k) (length D)) refl
+      where
+        go : (t : Bool) → ltb (turn + k) (length D) ≡ t → getD (first ++ others) k 0 ≡ getD (itemsOf (plane s) i) k 0
+        go true t =
+            let l : turn + k < length D = ltb-true (turn + k) (length D) t in
+            List·getD-append first others 0 k (omega (arith, first-long))
+            ∙ map-at (λ e. i + e - m) A k (omega (arith, round-long))
+            ∙ round-item h l (round-read k) o
+        go false t =
+            let l : length D ≤ turn + k = ltb-false (turn + k) (length D) t in
+            let j = turn + k - length D in
+            let e : k ≡ length first + j = omega (arith, first-long, walk-turn) in
+            let z : i + getD B j 0 - 0 ≡ i + getD B j 0 = omega arith in
+            ap (λ (x : ℕ). getD (first ++ others) x 0) e
+            ∙ getD-append-add first others j 0
+            ∙ map-at (λ e. i + e - 0) B j (omega (arith, ahead-long))
+            ∙ z
+            ∙ ahead-item h l (ap (λ (L : List ℕ). getD L j 0) eb ∙ getD-take turn D j 0 (omega arith))
+
+    pub parts-items : map (λ e. i + e - m) A ++ map (λ e. i + e - 0) B ≡ itemsOf (plane s) i
+    unfolding first others
+    parts-items =
+        let long : length (first ++ others) ≡ length D = length-append first others ∙ omega (arith, first-long, others-long, walk-turn) in
+        ext-getD 0 (first ++ others) (itemsOf (plane s) i) (long ∙ sym items-many) (λ k h. parts-at k (omega (arith, long)))
 
 -- rows 1 to t have the tags 1 to t, so the tags of an item are the first of its rows
 module _ (s j : ℕ) (fits : planeTags s ≤ planeItems s) where

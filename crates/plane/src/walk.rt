@@ -4,9 +4,9 @@
 use crate::table;
 ghost use mathlib.Core.Path.{_≡_};
 ghost use mathlib.Core.Bool.{true, false};
-ghost use mathlib.Core.List.{_++_};
-ghost use Prim.Native.Nat.{_+_, _-_, _≤_, _<_};
-ghost use lib.ListN.{length, getD, drop};
+ghost use mathlib.Core.List.{_++_, map};
+ghost use Prim.Native.Nat.{ℕ, _+_, _-_, _≤_, _<_};
+ghost use lib.ListN.{length, getD, take, drop};
 ghost use Rattle.incidence.specs.Family.{rowsOf, itemsOf, tagsOf};
 ghost use Rattle.plane.specs.Table.{planeItems, planeTags, planePattern};
 ghost use Rattle.plane.specs.Plane.{plane};
@@ -41,7 +41,21 @@ fn row_at(d: &[u16], s: usize, i: usize, turn: usize, k: usize) -> usize
     table::items(s) + 1 - item_at(d, s, i, turn, d.len() - 1 - k)
 }
 
-// Writes the items of row i to the front of out.
+// Writes the numbers of a list, each with up added and down taken away, to out from place `at` on; all else stays.
+fn write_moved(list: &[u16], up: usize, down: usize, at: usize, out: &mut [usize])
+    requires { ⌜ (up ≤ 273) × (at ≤ 17) × (at + length (now list) ≤ length (now out)) ⌝ }
+    requires { ⌜ ((k : ℕ) → k < length (now list) → down ≤ up + getD (now list) k 0) ⌝ }
+    ensures { λ _. ⌜ now (out .exit) ≡ take at (now (out .entry)) ++ (map (λ e. up + e - down) (now (list .entry)) ++ drop (at + length (now (list .entry))) (now (out .entry))) ⌝ }
+{
+    let n = list.len();
+    let mut k = 0;
+    while k < n {
+        out[at + k] = up + table::read(list, k) - down;
+        k += 1;
+    }
+}
+
+// Writes the items of row i to the front of out: the differences from place `turn` on go round to the first items, then the others follow.
 fn write_items(d: &[u16], s: usize, i: usize, turn: usize, out: &mut [usize]) -> usize
     requires { ⌜ Walk s i (now d) turn ⌝ }
     requires { ⌜ 17 ≤ length (now out) ⌝ }
@@ -49,11 +63,8 @@ fn write_items(d: &[u16], s: usize, i: usize, turn: usize, out: &mut [usize]) ->
     ensures count { λ r. ⌜ r ≡ length (along s i false) ⌝ }
 {
     let n = d.len();
-    let mut k = 0;
-    while k < n {
-        out[k] = item_at(d, s, i, turn, k);
-        k += 1;
-    }
+    write_moved(&d[turn..], i, table::items(s), 0, out);
+    write_moved(&d[0..turn], i, 0, n - turn, out);
     n
 }
 

@@ -1,7 +1,6 @@
 -- The rows agree by the tags' differences as Report's definition says, and so does all that is decoded from them.
-use Rattle.fips197.proofs.Kit.{_≡_, ap, ap₂, _∙_, sym, List, _++_, ℕ, suc, _-_, _≤_, arith, length, drop}
+use Rattle.fips197.proofs.Kit.{_≡_, ap, _∙_, sym, List, _++_, ℕ, suc, _-_, _≤_, arith, length, drop}
 use Rattle.blocks.specs.Block.{slot}
-use Rattle.incidence.specs.Sum.{rowSum, expanded}
 use Rattle.incidence.specs.Report.{named, numberNamed, disagreeing, answer}
 use Rattle.incidence.specs.declared.Answer.{Answer}
 use Rattle.incidence.proofs.Differences.{difference-zero}

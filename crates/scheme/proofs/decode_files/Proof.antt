@@ -1,5 +1,5 @@
 -- The size code and the count are those of the files.
-use Rattle.fips197.proofs.Kit.{_≡_, ap, ap₂, _∙_, true, List, _++_, ℕ, _*_, _≤_, arith, length, drop, needs}
+use Rattle.fips197.proofs.Kit.{_≡_, ap, ap₂, _∙_, _++_, ℕ, arith, drop, needs}
 use Rattle.incidence.specs.Report.{named, numberNamed, disagreeing, answer}
 use Rattle.sizes.specs.Sizes.{known, familyOf}
 use Rattle.files.specs.declared.tagfile.Head.{Head}

@@ -1,7 +1,6 @@
 -- Refused, or decoded from the differences of the tags (Comparing); and demand 3 (Claiming).
-use Rattle.fips197.proofs.Kit.{_≡_, refl, _∙_, _*_, _≤_, arith, length, needs}
+use Rattle.fips197.proofs.Kit.{refl, _∙_, arith, length, needs}
 use Rattle.blocks.proofs.Xor.{bytes-from}
-use Rattle.sizes.specs.Sizes.{familyOf}
 use Rattle.sizes.proofs.Laws.{rows-few, tags-few}
 use Rattle.files.specs.TagFile.{codeOf}
 use Rattle.tagging.specs.Tagging.{keysIn}

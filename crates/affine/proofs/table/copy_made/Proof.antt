@@ -1,7 +1,6 @@
 -- The row's part of the tables, which stands behind its length (Tables).
 use Rattle.fips197.proofs.Kit.{_+_, _-_, _*_, _/_, _<_, arith, needs}
 use Rattle.incidence.proofs.Listing.{written-as}
-use Rattle.affine.specs.Affine.{affineFamily}
 use Rattle.affine.proofs.Tables.{made-room, made-part, made-few, index-high, rows-high}
 use Rattle.affine.proofs.table.copy_made.Statement.{statement}
 use Rattle.affine.proofs.table.copy_made.Tie as tie

@@ -1,5 +1,5 @@
 -- A word at a time; the constant is a word of one byte (WordLaws).
-use Rattle.fips197.proofs.Kit.{_≡_, ap, _∙_, List, ℕ, _<_, needs}
+use Rattle.fips197.proofs.Kit.{ap, _∙_, List, ℕ, _<_, needs}
 use Rattle.fips197.specs.Block.{_⊕_}
 use Rattle.fips197.specs.Aes.{rcon}
 use Rattle.fips197.specs.Words.{bytesOf}

@@ -2,7 +2,6 @@
 use Rattle.fips197.proofs.Kit.{refl, arith, needs}
 use Rattle.plane.specs.Table.{differenceLists}
 use Rattle.plane.specs.Walk.{Walk}
-use Rattle.plane.proofs.Lookup.{differences-rise}
 use Rattle.plane.proofs.Walks.{walk-of}
 use Rattle.plane.proofs.walk.walk.Statement.{statement}
 use Rattle.plane.proofs.walk.walk.Tie as tie
@@ -13,9 +12,6 @@ differences-requires c κs = refl
 
 sub-rank : tie.Need-sub-rank
 sub-rank c = omega (arith, c .items .ensures, c .before .before .before .before .pre .0 .1)
-
-rank-requires : tie.Need-rank-requires
-rank-requires c κs = rw (c .before .differences .ensures) (differences-rise _)
 
 -- the walk that is set out on
 set-out : (c : tie.After-rank) → let d = c .before .before in let a = d .before .before .before .args in
@@ -40,5 +36,5 @@ returns-2 c = let w = c .before .before in rw (w .before .before .if1 .left) (w 
 pub walk-spec : {M : Type 1} → statement M
 walk-spec =
     tie.close
-    (tie.spec (λ c. search needs) differences-requires (λ c κs. search needs) sub-rank rank-requires write-tags-requires
+    (tie.spec (λ c. search needs) differences-requires (λ c κs. search needs) sub-rank (λ c κs. search needs) write-tags-requires
     (λ c. search needs) returns write-items-requires (λ c. search needs) returns-2)

@@ -1,6 +1,5 @@
 -- Each turn writes a round key (fips197's Schedules).
-use Rattle.fips197.proofs.Kit.{_≡_, ap, _∙_, _-_, arith, length, needs}
-use Rattle.fips197.specs.Aes.{keyExpansion}
+use Rattle.fips197.proofs.Kit.{_-_, arith, needs}
 use Rattle.fips197.specs.Words.{stateOf}
 use Rattle.fips197.proofs.Schedules.{Written, written-first, written-next, written-all}
 use Rattle.tables.proofs.schedule.expand.Statement.{statement}
