@@ -116,6 +116,15 @@ static void second_replaces(void)
     need(r.number == 0, "second replace");
 }
 
+/* A fixed number of steps, each of which waits for the one before it: its time is the clock's alone. */
+static void spin(void)
+{
+    static volatile uint64_t last = 1;
+    uint64_t x = last;
+    for (int i = 0; i < 20000; i++) x = x * 6364136223846793005u + 1442695040888963407u;
+    last = x;
+}
+
 /* Seconds that one call takes. */
 static double once(void (*f)(void), int calls)
 {
@@ -148,35 +157,36 @@ static const struct { const char *name; void (*ours)(void), (*theirs)(void); } c
     {"Report, d changed", report_d, second_reports_d}, {"Replace", replace, second_replaces}};
 
 /* The best of many of each, taken in turns, so that a slow spell of the machine falls on all alike: 0 is our CMAC, 1 libtomcrypt's, then
- * ours and the second implementation's of each call. */
-static void measure(int count, double least[][12])
+ * ours and the second implementation's of each call, and last the clock's. */
+enum { TIMES = 13, CLOCK = TIMES - 1 };
+static void measure(int count, double least[][TIMES])
 {
     for (int q = 0; q < count; q++) {
         now = &settings[q];
         agree();
-        for (int k = 0; k < 12; k++) least[q][k] = 1e9;
+        for (int k = 0; k < TIMES; k++) least[q][k] = 1e9;
     }
     for (int i = 0; i < ROUNDS; i++)
         for (int q = 0; q < count; q++)
-            for (int k = 0; k < 12; k++) {
-                void (*f)(void) = k == 0 ? our_cmac : k == 1 ? their_cmac : k % 2 == 0 ? calls[k / 2 - 1].ours : calls[k / 2 - 1].theirs;
+            for (int k = 0; k < TIMES; k++) {
+                void (*f)(void) = k == 0 ? our_cmac : k == 1 ? their_cmac : k == CLOCK ? spin : k % 2 == 0 ? calls[k / 2 - 1].ours : calls[k / 2 - 1].theirs;
                 now = &settings[q];
                 double t = once(f, now->shelf_len > 8192 ? 1 : 16);
                 if (t < least[q][k]) least[q][k] = t;
             }
 }
 
-/* size, cards, bytes a card, bytes in all, call; the call's time, libtomcrypt's CMAC, our CMAC, the second implementation's call */
+/* size, cards, bytes a card, bytes in all, call; the call's time, libtomcrypt's CMAC, our CMAC, the second implementation's call, the clock's */
 static void print_size(const struct family *f)
 {
     static const size_t lengths[3] = {16, 232, 1024};
-    double t[FEW][12];
+    double t[FEW][TIMES];
     for (int q = 0; q < 3; q++) {
         lay_out(&settings[0], f, f->cards, lengths[q], f->limit);
         measure(1, t);
         for (int i = 0; i < 5; i++)
-            printf("%u\t%u\t%zu\t%zu\t%s\t%.3f\t%.3f\t%.3f\t%.3f\n", f->code, settings[0].cards, lengths[q], settings[0].shelf_len, calls[i].name,
-                   t[0][2 + 2 * i] * 1e6, t[0][1] * 1e6, t[0][0] * 1e6, t[0][3 + 2 * i] * 1e6);
+            printf("%u\t%u\t%zu\t%zu\t%s\t%.3f\t%.3f\t%.3f\t%.3f\t%.3f\n", f->code, settings[0].cards, lengths[q], settings[0].shelf_len, calls[i].name,
+                   t[0][2 + 2 * i] * 1e6, t[0][1] * 1e6, t[0][0] * 1e6, t[0][3 + 2 * i] * 1e6, t[0][CLOCK] * 1e6);
     }
 }
 
@@ -194,7 +204,7 @@ static void print_growth(void)
     static const unsigned cards[FEW] = {1, 17, 68, 136, 273};
     static const int shown[4] = {2, 4, 6, 10}; /* Tag, Verify, Report with nothing changed, Replace */
     const int last = FEW - 1;
-    double t[FEW][12];
+    double t[FEW][TIMES];
     for (int q = 0; q < FEW; q++) lay_out(&settings[q], second_family(4), cards[q], 232, second_family(4)->limit);
     measure(FEW, t);
     puts("\nGrowth, size 4, cards of 232 bytes. A call's time over one CMAC of the same bytes by our cipher, and its time a card over that with 273\n"
