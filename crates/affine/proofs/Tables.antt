@@ -10,7 +10,7 @@ use Rattle.incidence.proofs.Listing.{listed-length}
 use Rattle.affine.specs.Field.{polynomial, elementTimesX, productOver, product, elementPower, elementInverse}
 use Rattle.affine.specs.Lines.{points, xOf, yOf, onLine, chosen, affineItems, isRow, pointOf, rowCount}
 use Rattle.affine.specs.Affine.{sized, itemSet, eliminated, remainder, isTagged, affineFamily, tagNumbers}
-use Rattle.affine.specs.Walk.{courseOf, placeOn, chosenAt, dual, throughCount, sizeIndex, entryOf, wideEntryOf, behind, MadeIn}
+use Rattle.affine.specs.Walk.{courseOf, placeOn, chosenAt, dual, throughCount, sizeIndex, entryOf, wideEntryOf, pastLists, MadeIn}
 use Rattle.affine.specs.Elimination.{has, greatest, Remainder, nothing, add, reduced, reducedBy, remainderOf, next}
 use Rattle.affine.proofs.Tagging.{tagged-yes, tagged-no, made-is, made-none}
 use Rattle.affine.proofs.Listings.{passing, passing-is}
@@ -325,13 +325,13 @@ standTest T [] = true
 standTest T (r ∷ rs) = eqb (length r) (suc (getD r 0 0)) && (begins T r && standTest (drop (length r) T) rs)
 
 -- the first of so many lists passed before the others
-behind-first : (T : List ℕ) (a n : ℕ) → behind T a (suc n) ≡ behind T (a + 1 + entryOf T a) n
-unfolding behind
-behind-first T a zero = refl
-behind-first T a (suc n) = ap (λ (x : ℕ). x + 1 + entryOf T x) (behind-first T a n)
+past-first : (T : List ℕ) (a n : ℕ) → pastLists T a (suc n) ≡ pastLists T (a + 1 + entryOf T a) n
+unfolding pastLists
+past-first T a zero = refl
+past-first T a (suc n) = ap (λ (x : ℕ). x + 1 + entryOf T x) (past-first T a n)
 
-stand-at : (T : List ℕ) (a : ℕ) (rs : List (List ℕ)) → standTest (drop a T) rs ≡ true → (k : ℕ) → begins (drop (behind T a k) T) (getD rs k []) ≡ true
-unfolding standTest begins behind entryOf
+stand-at : (T : List ℕ) (a : ℕ) (rs : List (List ℕ)) → standTest (drop a T) rs ≡ true → (k : ℕ) → begins (drop (pastLists T a k) T) (getD rs k []) ≡ true
+unfolding standTest begins pastLists entryOf
 stand-at T a [] h k = refl
 stand-at T a (r ∷ rs) h zero = and-left (begins (drop a T) r) _ (and-right (eqb (length r) (suc (getD r 0 0))) _ h)
 stand-at T a (r ∷ rs) h (suc k) =
@@ -339,7 +339,7 @@ stand-at T a (r ∷ rs) h (suc k) =
     let e : length r ≡ suc (getD r 0 0) = eqb-true (length r) _ (and-left (eqb (length r) (suc (getD r 0 0))) _ h) in
     let f : entryOf T a ≡ getD r 0 0 = read t (omega (arith, e)) in
     let g : a + 1 + entryOf T a ≡ a + length r = omega (arith, e, f) in
-    ap (λ (x : ℕ). begins (drop x T) (getD rs k [])) (behind-first T a k ∙ ap (λ (x : ℕ). behind T x k) g)
+    ap (λ (x : ℕ). begins (drop x T) (getD rs k [])) (past-first T a k ∙ ap (λ (x : ℕ). pastLists T x k) g)
     ∙ stand-at T (a + length r) rs
     (ap (λ (x : List ℕ). standTest x rs) (sym (drop-drop (length r) a T)) ∙ and-right (begins (drop a T) r) _ t) k
   where
@@ -352,11 +352,11 @@ unfoldable pub eightsTest : List ℕ → List ℕ → ℕ → List (List ℕ) �
 eightsTest S T z rs = every (λ g. standTest (drop (wideEntryOf S (z + g)) T) (take 8 (drop (8 * g) rs))) 8
 
 eights-at : (S T : List ℕ) (z : ℕ) (rs : List (List ℕ)) → eightsTest S T z rs ≡ true → (k : ℕ) → k < 64
-    → begins (drop (behind T (wideEntryOf S (z + k / 8)) (k % 8)) T) (getD rs k []) ≡ true
+    → begins (drop (pastLists T (wideEntryOf S (z + k / 8)) (k % 8)) T) (getD rs k []) ≡ true
 unfolding eightsTest
 eights-at S T z rs h k u =
     let e : 8 * (k / 8) + k % 8 ≡ k = omega arith in
-    ap (begins (drop (behind T (wideEntryOf S (z + k / 8)) (k % 8)) T))
+    ap (begins (drop (pastLists T (wideEntryOf S (z + k / 8)) (k % 8)) T))
     (ap (λ (x : ℕ). getD rs x []) (sym e) ∙ sym (getD-drop (8 * (k / 8)) rs (k % 8) []) ∙ sym (getD-take 8 (drop (8 * (k / 8)) rs) (k % 8) [] (omega arith)))
     ∙ stand-at T (wideEntryOf S (z + k / 8)) (take 8 (drop (8 * (k / 8)) rs))
     (every-at (λ g. standTest (drop (wideEntryOf S (z + g)) T) (take 8 (drop (8 * g) rs))) 8 h (k / 8) (omega arith)) (k % 8)
@@ -372,7 +372,7 @@ pub made-in : (s l i : ℕ) → sized s l ≡ true → (S T : List ℕ) → 1 �
 unfolding madeTest madePart
 made-in s l i size S T li ui h =
     let e : suc (i - 1) ≡ i = omega arith in
-    let D = drop (behind T (wideEntryOf S (8 * sizeIndex s l + (i - 1) / 8)) ((i - 1) % 8)) T in
+    let D = drop (pastLists T (wideEntryOf S (8 * sizeIndex s l + (i - 1) / 8)) ((i - 1) % 8)) T in
     record {
       stands = begins-is D (counted (affineFamily s l .made i))
           (ap (begins D) (sym (made-row s l size (i - 1) (omega arith) ∙ ap (λ (x : ℕ). counted (affineFamily s l .made x)) e))
@@ -395,11 +395,11 @@ module _ (D M : List ℕ) (h : take (suc (length M)) D ≡ counted M) where
   counted-room = omega (arith, ap length h, length-take (suc (length M)) D)
 
 -- what the code reads of the tables
-module _ (s l : ℕ) {i a b z n : ℕ} {S T : List ℕ} (I : MadeIn s l i S T) (e : a ≡ behind T b ((i - 1) % 8)) (f : b ≡ wideEntryOf S (8 * z + (i - 1) / 8))
+module _ (s l : ℕ) {i a b z n : ℕ} {S T : List ℕ} (I : MadeIn s l i S T) (e : a ≡ pastLists T b ((i - 1) % 8)) (f : b ≡ wideEntryOf S (8 * z + (i - 1) / 8))
     (g : z ≡ sizeIndex s l) (c : n ≡ entryOf T a) where
   here : take (suc (length (affineFamily s l .made i))) (drop a T) ≡ counted (affineFamily s l .made i)
   here =
-      ap (λ (x : ℕ). take (suc (length (affineFamily s l .made i))) (drop x T)) (e ∙ ap (λ (x : ℕ). behind T x ((i - 1) % 8)) (f ∙ ap (λ (x : ℕ). wideEntryOf S (8 * x + (i - 1) / 8)) g))
+      ap (λ (x : ℕ). take (suc (length (affineFamily s l .made i))) (drop x T)) (e ∙ ap (λ (x : ℕ). pastLists T x ((i - 1) % 8)) (f ∙ ap (λ (x : ℕ). wideEntryOf S (8 * x + (i - 1) / 8)) g))
       ∙ I .stands
 
   made-count : n ≡ length (affineFamily s l .made i)

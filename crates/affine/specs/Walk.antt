@@ -64,12 +64,12 @@ unfoldable pub sizeIndex : ℕ → ℕ → ℕ
 sizeIndex s l = if eqb s 2 then l - 3 else l
 
 -- the place behind n lists of a table, each behind its length, from place a on
-unfoldable pub behind : List ℕ → ℕ → ℕ → ℕ
-behind T a zero = a
-behind T a (suc n) = let b = behind T a n in b + 1 + entryOf T b
+unfoldable pub pastLists : List ℕ → ℕ → ℕ → ℕ
+pastLists T a zero = a
+pastLists T a (suc n) = let b = pastLists T a n in b + 1 + entryOf T b
 
 -- what two tables say of row i: the one, where the lists of every eighth row begin in the other, and that, of how many rows it is made and of
 -- which
 pub record MadeIn (s l i : ℕ) (S T : List ℕ) : Type 0 where
-  pub stands : take (suc (length (affineFamily s l .made i))) (drop (behind T (wideEntryOf S (8 * sizeIndex s l + (i - 1) / 8)) ((i - 1) % 8)) T)
+  pub stands : take (suc (length (affineFamily s l .made i))) (drop (pastLists T (wideEntryOf S (8 * sizeIndex s l + (i - 1) / 8)) ((i - 1) % 8)) T)
       ≡ length (affineFamily s l .made i) ∷ affineFamily s l .made i

@@ -8,7 +8,7 @@ ghost use Prim.Native.Nat.{_+_, _*_, _≤_, _<_};
 ghost use lib.ListN.{length, getD, take, drop};
 ghost use Rattle.affine.specs.Lines.{pointOf, rowCount};
 ghost use Rattle.affine.specs.Affine.{sized, affineFamily};
-ghost use Rattle.affine.specs.Walk.{sizeIndex, entryOf, wideEntryOf, behind, MadeIn};
+ghost use Rattle.affine.specs.Walk.{sizeIndex, entryOf, wideEntryOf, pastLists, MadeIn};
 
 // The tag of the row that each point is, 0 where it is none or has none. A size has 64 entries.
 pub const POINT_TAGS: [u8; 640] = *b"\
@@ -310,7 +310,7 @@ fn copy(from: &[u8], out: &mut [u16]) -> usize
 // The place in a table behind n lists, each behind its length, from a place on.
 fn skip(t: &[u8], at: usize, n: usize) -> usize
     requires { ⌜ (at < 65536) × (n < 8) ⌝ }
-    ensures behind { λ r. ⌜ r ≡ behind (now (t .entry)) at n ⌝ }
+    ensures past { λ r. ⌜ r ≡ pastLists (now (t .entry)) at n ⌝ }
     ensures short { λ r. ⌜ r ≤ at + 256 * n ⌝ }
 {
     let mut place = at;

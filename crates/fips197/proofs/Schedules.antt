@@ -1,4 +1,4 @@
--- The key schedule: its length, its bytes and its round keys, and what the code's loop keeps of it.
+-- The key schedule: its length, its bytes and its round keys, and what the engines' loops keep of it.
 use Rattle.fips197.proofs.Kit.{_≡_, refl, sym, ap, ap₂, _∙_, Bool, true, false, List, [], _∷_, _++_, map, ℕ, zero, suc, _+_, _-_, _*_, _/_, _%_, _≤_, _<_, zero-lt-suc, arith, eqb, length, getD, take, drop, length-append, length-take, length-drop, take-append-le, drop-append-le, take-at, take-all, drop-at, drop-drop, drop-append-add, append-assoc, add-one, eq-eqb, ne-eqb}
 use Rattle.fips197.specs.Block.{if_then_else_, Bytes, Block, _⊕_}
 use Rattle.fips197.specs.Field.{power, powerBy, _•_}

@@ -62,7 +62,7 @@ sumExpanded keys f i = expanded (familyOf (codeOf f)) (sumTagged keys f) i
 unfoldable pub agrees : Keys → List ℕ → List ℕ → ℕ → Bool
 agrees keys s f i = same (sumFrom keys (versionOf f) (codeOf f) s i) (sumExpanded keys f i)
 
--- the XOR of tag k's two sums, the one had back from it and the message's: what the code makes the rows' agreement from
+-- the XOR of tag k's two sums, the one had back from it and the message's: zero where they are equal
 unfoldable pub tagDifference : Keys → List ℕ → List ℕ → ℕ → List ℕ
 tagDifference keys s f k = sumTagged keys f k ⊕ tagSum keys (stampIn (versionOf f) s) (codeOf f) (item s) (itemCount s) k
 

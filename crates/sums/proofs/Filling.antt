@@ -5,7 +5,7 @@ use Rattle.blocks.specs.Block.{if_then_else_, _⊕_, slot, zeros}
 use Rattle.incidence.specs.Sum.{sumOf, expanded}
 use Rattle.incidence.specs.Family.{Family, Lawful}
 use Rattle.incidence.proofs.Sums.{sumOf-ext, expanded-ext, expanded-made, expanded-tagged}
-use Rattle.sums.specs.Adding.{sumIn, Holds, spread}
+use Rattle.sums.specs.Adding.{sumIn, Holds, spreadTags}
 use Rattle.sums.proofs.Walking.{Partly, partly-none, partly-all, partly-new, partly-old, partly-kept, partly-put}
 
 -- ---- the rows that a row is made of, from the last
@@ -24,20 +24,20 @@ sum-more sum rows r k a l h ea er =
 
 -- ---- the tags' sums move to their rows, from the last
 
-spread-none : (F : Family) (s : List ℕ) (i : ℕ) → F .tagOfRow i ≡ 0 → spread F s i ≡ sumIn s i
-unfolding spread
+spread-none : (F : Family) (s : List ℕ) (i : ℕ) → F .tagOfRow i ≡ 0 → spreadTags F s i ≡ sumIn s i
+unfolding spreadTags
 spread-none F s i z = ap (λ (b : Bool). if b then sumIn s i else sumIn s (F .tagOfRow i)) (eq-eqb _ 0 z)
 
-spread-some : (F : Family) (s : List ℕ) (i : ℕ) → (F .tagOfRow i ≡ 0 → ⊥) → spread F s i ≡ sumIn s (F .tagOfRow i)
-unfolding spread
+spread-some : (F : Family) (s : List ℕ) (i : ℕ) → (F .tagOfRow i ≡ 0 → ⊥) → spreadTags F s i ≡ sumIn s (F .tagOfRow i)
+unfolding spreadTags
 spread-some F s i z = ap (λ (b : Bool). if b then sumIn s i else sumIn s (F .tagOfRow i)) (ne-eqb _ 0 z)
 
 -- the rows behind the first i have theirs
 abbrev pub Spread : Family → List ℕ → List ℕ → ℕ → Type 0
-Spread F before s i = Partly (F .rows) (ltb i) (spread F before) before s
+Spread F before s i = Partly (F .rows) (ltb i) (spreadTags F before) before s
 
 pub spread-first : (F : Family) (s : List ℕ) (i : ℕ) → i ≡ F .rows → Spread F s s i
-spread-first F s i e = partly-none (F .rows) (ltb i) (spread F s) s (λ j l u. le-ltb i j (omega arith))
+spread-first F s i e = partly-none (F .rows) (ltb i) (spreadTags F s) s (λ j l u. le-ltb i j (omega arith))
 
 module _ (F : Family) (before s : List ℕ) (i : ℕ) (low : 1 ≤ i) (high : i ≤ F .rows) (W : Spread F before s i) {t : ℕ} (et : t ≡ F .tagOfRow i) where
   others : (j : ℕ) → 1 ≤ j → j ≤ F .rows → (j ≡ i → ⊥) → ltb (i - 1) j ≡ ltb i j
@@ -51,11 +51,11 @@ module _ (F : Family) (before s : List ℕ) (i : ℕ) (low : 1 ≤ i) (high : i 
   this = lt-ltb (i - 1) i (omega arith)
 
   old : (j : ℕ) → 1 ≤ j → j ≤ i → sumIn s j ≡ sumIn before j
-  old j l u = partly-old (F .rows) (ltb i) (spread F before) before s W j l (omega arith) (le-ltb i j u)
+  old j l u = partly-old (F .rows) (ltb i) (spreadTags F before) before s W j l (omega arith) (le-ltb i j u)
 
   pub spread-stays : t ≡ 0 → Spread F before s (i - 1)
   spread-stays z =
-      partly-kept (F .rows) (ltb i) (spread F before) before s W (ltb (i - 1)) i low high others this
+      partly-kept (F .rows) (ltb i) (spreadTags F before) before s W (ltb (i - 1)) i low high others this
       (old i low (omega arith) ∙ sym (spread-none F before i (sym et ∙ z)))
 
   -- a tag's number is at most its row's: its sum has not been written over
@@ -63,11 +63,11 @@ module _ (F : Family) (before s : List ℕ) (i : ℕ) (low : 1 ≤ i) (high : i 
       → s′ ≡ take (16 * (i - 1)) s ++ (v ++ drop (16 * (i - 1) + 16) s) → Spread F before s′ (i - 1)
   unfolding sumIn slot
   spread-moves z h v s′ fits long ev e =
-      partly-put (F .rows) (ltb i) (spread F before) before s W (ltb (i - 1)) i low high others this v s′ fits long
+      partly-put (F .rows) (ltb i) (spreadTags F before) before s W (ltb (i - 1)) i low high others this v s′ fits long
       (ev ∙ old t (omega (arith, z)) h ∙ ap (sumIn before) et ∙ sym (spread-some F before i (λ y. z (et ∙ y)))) e
 
-pub spread-done : (F : Family) (before s : List ℕ) (i : ℕ) → Spread F before s i → i ≡ 0 → Holds (F .rows) (spread F before) before s
-spread-done F before s i W e = partly-all (F .rows) (ltb i) (spread F before) before s W (λ j l u. lt-ltb i j (omega arith))
+pub spread-done : (F : Family) (before s : List ℕ) (i : ℕ) → Spread F before s i → i ≡ 0 → Holds (F .rows) (spreadTags F before) before s
+spread-done F before s i W e = partly-all (F .rows) (ltb i) (spreadTags F before) before s W (λ j l u. lt-ltb i j (omega arith))
 
 -- ---- the other rows are made, from the first
 
@@ -116,7 +116,7 @@ pub fill-done : (F : Family) (before s : List ℕ) (k : ℕ) → Filled F before
 fill-done F before s k W h = partly-all (F .rows) (λ j. leb j k) (fromTagged F before) before s W (λ j l u. le-leb j k (omega arith))
 
 -- both steps
-pub fill-both : (F : Family) → Lawful F → (a b c : List ℕ) → Holds (F .rows) (spread F a) a b → Holds (F .rows) (fromTagged F b) b c
+pub fill-both : (F : Family) → Lawful F → (a b c : List ℕ) → Holds (F .rows) (spreadTags F a) a b → Holds (F .rows) (fromTagged F b) b c
     → Holds (F .rows) (expanded F (sumIn a)) a c
 fill-both F L a b c P Q = record {
   size = Q .size ∙ P .size;

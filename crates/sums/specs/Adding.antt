@@ -23,5 +23,5 @@ abbrev pub Added : (ℕ → Bool) → ℕ → List ℕ → List ℕ → List ℕ
 Added p n value before after = Holds n (λ i. if p i then sumIn before i ⊕ value else sumIn before i) before after
 
 -- what stands at row i once the tags' sums, which stood at the front, have moved to their rows: another row's is as it was
-unfoldable pub spread : Family → List ℕ → ℕ → List ℕ
-spread F s i = if eqb (F .tagOfRow i) 0 then sumIn s i else sumIn s (F .tagOfRow i)
+unfoldable pub spreadTags : Family → List ℕ → ℕ → List ℕ
+spreadTags F s i = if eqb (F .tagOfRow i) 0 then sumIn s i else sumIn s (F .tagOfRow i)

@@ -6,7 +6,7 @@ ghost use Prim.Native.Nat.{_*_, _≤_};
 ghost use Rattle.incidence.specs.Sum.{sumOf, expanded};
 ghost use lib.ListN.{length};
 ghost use Rattle.sizes.specs.Sizes.{known, familyOf};
-ghost use Rattle.sums.specs.Adding.{sumIn, Holds, Added, spread};
+ghost use Rattle.sums.specs.Adding.{sumIn, Holds, Added, spreadTags};
 
 // The most bytes that the sums of all tags and of all rows have: those of the largest size.
 pub const TAGS_MOST: usize = 1312;
@@ -52,7 +52,7 @@ fn sum_made(code: u64, sums: &[u8], i: usize) -> [u8; 16]
 // row to the first: a tag's number is never above its row's, so that no sum is written over before it has moved.
 fn spread_tags(code: u64, sums: &mut [u8])
     requires { ⌜ 16 * familyOf code .rows ≤ length (now sums) ⌝ }
-    ensures { λ _. ⌜ Holds (familyOf code .rows) (spread (familyOf code) (now (sums .entry))) (now (sums .entry)) (now (sums .exit)) ⌝ }
+    ensures { λ _. ⌜ Holds (familyOf code .rows) (spreadTags (familyOf code) (now (sums .entry))) (now (sums .entry)) (now (sums .exit)) ⌝ }
 {
     let mut i = sizes::rows(code);
     while 0 < i {
