@@ -2,3 +2,4 @@
 pub mod Marks
 pub mod Picking
 pub mod Agreeing
+pub mod Passes

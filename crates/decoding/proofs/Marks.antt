@@ -91,6 +91,20 @@ cleared-both p q n a b c P Q = record {
     go false true x y e = refl
     go false false x y e = e
 
+-- and what both clear, without what the first does, the second does
+pub cleared-apart : (p q : ℕ → Bool) (n : ℕ) (a b c : List ℕ) → Cleared p n a b → Cleared (λ j. p j || q j) n a c → Cleared q n b c
+cleared-apart p q n a b c P C = record {
+  size = C .size ∙ sym (P .size);
+  marks = λ j l u. C .marks j l u ∙ go (p j) (q j) (markIn a j) (markIn b j) (P .marks j l u);
+  rest = C .rest ∙ sym (P .rest);
+}
+  where
+    go : (s t : Bool) (x y : ℕ) → y ≡ (if s then 0 else x) → (if s || t then 0 else x) ≡ (if t then 0 else y)
+    go true true x y e = refl
+    go true false x y e = sym e
+    go false true x y e = refl
+    go false false x y e = sym e
+
 -- ---- all items are marked, then those that an agreeing row holds are cleared
 
 module _ (F : Family) (agrees : ℕ → Bool) {n : ℕ} {a b c : List ℕ} (all : Marked n (λ j. 1) a b) (C : Cleared (cleared F agrees (F .rows)) n b c) where

@@ -1,10 +1,11 @@
 -- What the loops know, of the marks counted, of a row's items and of the rows compared: at first, after one turn more, and at the end.
-use Rattle.fips197.proofs.Kit.{_≡_, refl, sym, ap, ap₂, _∙_, subst, Bool, true, false, not, _&&_, _||_, true≢false, List, _⊎_, inl, inr, ℕ, _+_, _-_, _≤_, _<_, arith, add-one, eqb, leb, length, getD, eqb-true, eq-eqb, ne-eqb, leb-true, le-leb}
+use Rattle.fips197.proofs.Kit.{_≡_, refl, sym, ap, ap₂, _∙_, subst, Bool, true, false, not, _&&_, _||_, true≢false, List, _⊎_, inl, inr, ℕ, suc, _+_, _-_, _≤_, _<_, arith, add-one, eqb, leb, length, getD, eqb-true, eq-eqb, ne-eqb, leb-true, le-leb}
 use Rattle.incidence.specs.Count.{indicator, countUpTo, anyUpTo}
 use Rattle.incidence.specs.Family.{Family, itemsOf}
 use Rattle.incidence.specs.Report.{cleared, disagreeing}
 use Rattle.incidence.proofs.Booleans.{and-left, and-right, and-both, or-cases, not-both}
 use Rattle.incidence.proofs.Counting.{count-most, count-before, any-some, any-none}
+use Rattle.incidence.proofs.Walking.{cleared-step, counted-step}
 use Rattle.incidence.proofs.Listing.{Member, itemsOf-at, listed-rank, listed-length}
 use Rattle.decoding.specs.Decoding.{markIn, Cleared, isMarked, holdsMarked}
 use Rattle.decoding.proofs.Marks.{cleared-as, cleared-none, cleared-both}
@@ -128,46 +129,51 @@ holds-this F row n marks k x e h t =
 
 -- ---- the rows are compared
 
--- of the first i rows, those that agree have cleared their items, and the others are counted
-pub record Compared (F : Family) (agrees : ℕ → Bool) (n : ℕ) (before after : List ℕ) (others i : ℕ) : Type 0 where
-  pub items : Cleared (cleared F agrees i) n before after
-  pub rows : others ≡ disagreeing agrees i
+module _ (F : Family) (agrees : ℕ → Bool) (n row : ℕ) (s : List ℕ) where
+  -- one that agrees clears its items
+  pub taken-agrees : (t : List ℕ) → agrees row ≡ true → Cleared (F .on row) n s t → Cleared (λ j. agrees row && F .on row j) n s t
+  taken-agrees t e C = cleared-as (F .on row) _ n s t (λ j l u. ap (λ (b : Bool). b && F .on row j) (sym e)) C
 
-pub compared-first : (F : Family) (agrees : ℕ → Bool) (n : ℕ) (s : List ℕ) → Compared F agrees n s s 0 0
+  -- one that does not clears nothing
+  pub taken-other : agrees row ≡ false → Cleared (λ j. agrees row && F .on row j) n s s
+  taken-other e = cleared-none _ n s (λ j l u. ap (λ (b : Bool). b && F .on row j) e)
+
+-- the same number of rows by another name
+pub as-many : (F : Family) (agrees : ℕ → Bool) (n : ℕ) {i k : ℕ} {s t : List ℕ} → i ≡ k → Cleared (cleared F agrees i) n s t → Cleared (cleared F agrees k) n s t
+as-many F agrees n {s = s} {t = t} e C = subst (λ (r : ℕ). Cleared (cleared F agrees r) n s t) e C
+
+-- of the rows before `row`, those that agree have cleared their items, and the others are counted
+pub record Compared (F : Family) (agrees : ℕ → Bool) (n : ℕ) (before after : List ℕ) (others row : ℕ) : Type 0 where
+  pub items : Cleared (cleared F agrees (row - 1)) n before after
+  pub rows : others ≡ disagreeing agrees (row - 1)
+
+pub compared-first : (F : Family) (agrees : ℕ → Bool) (n : ℕ) (s : List ℕ) → Compared F agrees n s s 0 1
 unfolding cleared disagreeing
 compared-first F agrees n s = record { items = cleared-none (cleared F agrees 0) n s (λ j l u. refl); rows = refl }
 
-module _ {F : Family} {agrees : ℕ → Bool} {n : ℕ} {before s : List ℕ} {others i : ℕ} (C : Compared F agrees n before s others i) where
-  pub compared-few : others ≤ i
+module _ {F : Family} {agrees : ℕ → Bool} {n : ℕ} {before s : List ℕ} {others row : ℕ} (low : 1 ≤ row) (C : Compared F agrees n before s others row) where
+  pub compared-few : others < row
   unfolding disagreeing
-  compared-few = omega (arith, C .rows, count-most (λ r. not (agrees r)) i)
+  compared-few = omega (arith, low, C .rows, count-most (λ r. not (agrees r)) (row - 1))
 
-  cleared-next : (b : Bool) → agrees (i + 1) ≡ b → (j : ℕ) → cleared F agrees i j || (b && F .on (i + 1) j) ≡ cleared F agrees (i + 1) j
-  unfolding cleared
-  cleared-next b e j =
-      sym (any-next (λ r. agrees r && F .on r j) i ∙ ap (λ (t : Bool). cleared F agrees i j || (t && F .on (i + 1) j)) e)
+  -- the rows before the next one are those before this one, and this one
+  here : suc (row - 1) ≡ row
+  here = omega (arith, low)
 
-  rows-next : (b : Bool) → agrees (i + 1) ≡ b → others + indicator (not b) ≡ disagreeing agrees (i + 1)
-  unfolding disagreeing
-  rows-next b e = omega (arith, C .rows, count-next (λ r. not (agrees r)) i (not b) (ap not e))
+  next : row + 1 - 1 ≡ suc (row - 1)
+  next = omega (arith, low)
 
-  pub compared-agrees : (after : List ℕ) → agrees (i + 1) ≡ true → Cleared (F .on (i + 1)) n s after → Compared F agrees n before after others (i + 1)
-  compared-agrees after e D = record {
-    items = cleared-as (λ j. cleared F agrees i j || F .on (i + 1) j) (cleared F agrees (i + 1)) n before after (λ j l u. cleared-next true e j)
-        (cleared-both (cleared F agrees i) (F .on (i + 1)) n before s after (C .items) D);
-    rows = omega (arith, rows-next true e);
+  pub compared-next : (after : List ℕ) (more : ℕ) → Cleared (λ j. agrees row && F .on row j) n s after → more ≡ indicator (not (agrees row))
+      → Compared F agrees n before after (others + more) (row + 1)
+  compared-next after more D e = record {
+    items = cleared-as (λ j. cleared F agrees (row - 1) j || (agrees row && F .on row j)) (cleared F agrees (row + 1 - 1)) n before after
+        (λ j l u. sym (ap (λ (k : ℕ). cleared F agrees k j) next ∙ cleared-step F agrees (row - 1) j
+        ∙ ap (λ (k : ℕ). cleared F agrees (row - 1) j || (agrees k && F .on k j)) here))
+        (cleared-both (cleared F agrees (row - 1)) (λ j. agrees row && F .on row j) n before s after (C .items) D);
+    rows = ap₂ _+_ (C .rows) e
+        ∙ sym (ap (disagreeing agrees) next ∙ counted-step F agrees (row - 1)
+        ∙ ap (λ (k : ℕ). disagreeing agrees (row - 1) + indicator (not (agrees k))) here);
   }
 
-  pub compared-other : agrees (i + 1) ≡ false → Compared F agrees n before s (others + 1) (i + 1)
-  compared-other e = record {
-    items = cleared-as (cleared F agrees i) (cleared F agrees (i + 1)) n before s
-        (λ j l u. or-nothing (cleared F agrees i j) ∙ cleared-next false e j) (C .items);
-    rows = rows-next false e;
-  }
-    where
-      or-nothing : (b : Bool) → b ≡ b || false
-      or-nothing true = refl
-      or-nothing false = refl
-
-  pub compared-done : i ≡ F .rows → Compared F agrees n before s others (F .rows)
-  compared-done e = subst (Compared F agrees n before s others) e C
+  pub compared-done : (rows : ℕ) → row - 1 ≡ rows → Cleared (cleared F agrees rows) n before s × (others ≡ disagreeing agrees rows)
+  compared-done rows e = (as-many F agrees n e (C .items), C .rows ∙ ap (disagreeing agrees) e)

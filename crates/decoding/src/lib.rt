@@ -3,12 +3,12 @@
 use blocks::block;
 use incidence::Answer;
 ghost use mathlib.Core.Path.{_≡_};
-ghost use mathlib.Core.Bool.{true, _&&_};
+ghost use mathlib.Core.Bool.{true, not, _&&_};
 ghost use mathlib.Core.List.{_++_};
 ghost use Prim.Native.Nat.{_*_, _≤_};
 ghost use lib.Dec.{eqb, leb};
 ghost use lib.ListN.{length, drop};
-ghost use Rattle.incidence.specs.Count.{countUpTo, anyUpTo};
+ghost use Rattle.incidence.specs.Count.{indicator, countUpTo, anyUpTo};
 ghost use Rattle.blocks.specs.Block.{zeros};
 ghost use Rattle.incidence.specs.Report.{cleared, named, numberNamed, disagreeing, answerBy, answer};
 ghost use Rattle.incidence.specs.declared.Answer.the-variants.{Intact};
@@ -69,23 +69,33 @@ fn agree(d: &[u8], i: usize) -> bool
     block::is_zero(d, 16 * (i - 1))
 }
 
-// Compares the rows in order: one that agrees clears those of the first n items that it holds, the others are counted.
-fn clear_agreeing(code: u64, n: usize, d: &[u8], marks: &mut [u8]) -> usize
+// Takes one row: compares it, and where it agrees clears those of the first n items that it holds. Gives 1 where it disagrees, else 0.
+fn take_row(code: u64, n: usize, d: &[u8], row: usize, marks: &mut [u8]) -> usize
     requires { ⌜ (n ≤ familyOf code .items) × (n ≤ length (now marks)) ⌝ }
-    requires { ⌜ 16 * familyOf code .rows ≤ length (now d) ⌝ }
-    ensures cleared { λ _. ⌜ Cleared (cleared (familyOf code) (agreesIn (now (d .entry))) (familyOf code .rows)) n (now (marks .entry)) (now (marks .exit)) ⌝ }
-    ensures rows { λ r. ⌜ r ≡ disagreeing (agreesIn (now (d .entry))) (familyOf code .rows) ⌝ }
+    requires { ⌜ (1 ≤ row) × (16 * row ≤ length (now d)) ⌝ }
+    ensures cleared { λ _. ⌜ Cleared (λ j. agreesIn (now (d .entry)) row && familyOf code .on row j) n (now (marks .entry)) (now (marks .exit)) ⌝ }
+    ensures counted { λ r. ⌜ r ≡ indicator (not (agreesIn (now (d .entry)) row)) ⌝ }
 {
-    let last = sizes::rows(code);
+    if agree(d, row) {
+        clear_row(code, n, row, marks);
+        return 0;
+    }
+    1
+}
+
+// The pass: takes the first i rows in order, each once, and gives how many of them disagree. It may be any number of rows whose differences
+// d holds; a report takes all rows of its size (document 02, 2.4).
+fn clear_agreeing(code: u64, n: usize, d: &[u8], i: usize, marks: &mut [u8]) -> usize
+    requires { ⌜ (n ≤ familyOf code .items) × (n ≤ length (now marks)) ⌝ }
+    requires { ⌜ 16 * i ≤ length (now d) ⌝ }
+    ensures cleared { λ _. ⌜ Cleared (cleared (familyOf code) (agreesIn (now (d .entry))) i) n (now (marks .entry)) (now (marks .exit)) ⌝ }
+    ensures rows { λ r. ⌜ r ≡ disagreeing (agreesIn (now (d .entry))) i ⌝ }
+{
     let mut others = 0;
-    let mut i = 0;
-    while i < last {
-        i += 1;
-        if agree(d, i) {
-            clear_row(code, n, i, marks);
-        } else {
-            others += 1;
-        }
+    let mut row = 1;
+    while row <= i {
+        others += take_row(code, n, d, row, marks);
+        row += 1;
     }
     others
 }
@@ -184,7 +194,7 @@ fn decode(code: u64, n: usize, d: &[u8], marks: &mut [u8]) -> Decoded
     ensures rows { λ r. ⌜ r .rows ≡ disagreeing (agreesIn (now (d .entry))) (familyOf code .rows) ⌝ }
 {
     mark_all(marks, n, 1);
-    let rows = clear_agreeing(code, n, d, marks);
+    let rows = clear_agreeing(code, n, d, sizes::rows(code), marks);
     let names = count_named(marks, n);
     Decoded {
         answer: choose(code, n, d, marks, rows, names),

@@ -9,4 +9,5 @@ pub mod Reports
 pub mod Detection
 pub mod Rejects
 pub mod Rowwise
+pub mod Walking
 pub mod Differences

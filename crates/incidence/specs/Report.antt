@@ -10,7 +10,8 @@ use Rattle.incidence.specs.Family.{Family}
 use Rattle.incidence.specs.declared.Answer.{Answer}
 use Rattle.incidence.specs.declared.Answer.the-variants.{Intact, Named, Beyond}
 
--- "Every row whose sum from the shelf equals its sum from the sheet clears its cards": one of the first i rows agrees and holds item j
+-- "Every row whose sum from the shelf equals its sum from the sheet clears its cards": one of the first i rows agrees and holds item j.
+-- Document 02, 2.4, of the first i rows: "the cards cleared are exactly those on an agreeing row among them".
 unfoldable pub cleared : Family → (ℕ → Bool) → ℕ → ℕ → Bool
 cleared F agrees i j = anyUpTo (λ r. agrees r && F .on r j) i
 
@@ -22,7 +23,7 @@ named F agrees j = not (cleared F agrees (F .rows) j)
 unfoldable pub numberNamed : Family → (ℕ → Bool) → ℕ → ℕ
 numberNamed F agrees n = countUpTo (named F agrees) n
 
--- how many of the first i rows disagree
+-- how many of the first i rows disagree. Document 02, 2.4: "the number counted is that of the disagreeing rows among them".
 unfoldable pub disagreeing : (ℕ → Bool) → ℕ → ℕ
 disagreeing agrees i = countUpTo (λ r. not (agrees r)) i
 

@@ -1,11 +1,11 @@
 -- Every row agrees, or the rows are filled in and decoded (Agreeing, Marks).
-use Rattle.fips197.proofs.Kit.{_≡_, sym, ap, _∙_, true, List, ℕ, _++_, _≤_, arith, drop, needs}
+use Rattle.fips197.proofs.Kit.{sym, ap, _∙_, List, ℕ, _++_, arith, drop, needs}
 use Rattle.blocks.specs.Block.{allZero}
 use Rattle.incidence.proofs.Differences.{none-disagree, answer-agreeing, none-counted}
 use Rattle.incidence.proofs.Rowwise.{numberNamed-ext, disagreeing-ext, answer-ext}
 use Rattle.sizes.specs.Sizes.{familyOf}
 use Rattle.sizes.proofs.Laws.{lawful, tag-before}
-use Rattle.decoding.specs.Decoding.{agreesIn, agreesFrom}
+use Rattle.decoding.specs.Decoding.{agreesFrom}
 use Rattle.decoding.proofs.Marks.{marks-agreeing}
 use Rattle.decoding.proofs.Agreeing.{marks-ext, filled-agree, zero-agree, tags-within}
 use Rattle.decoding.proofs.decode_tags.Statement.{statement}
