@@ -6,8 +6,9 @@
  * changed cards, whose cards are random; the others are random altogether. Every buffer handed over lies against a page
  * that may not be touched, in front of it or behind it. Compared are the result, every byte of the lent buffer, the
  * bytes around it, and that no input was changed. What the second implementation gives is held against the requirements
- * too: a card replaced is the shelf tagged afresh, and a report names the cards that demand 3 says. A case depends on
- * the seed and its own number alone, so that a third argument runs a single case again. */
+ * too: a card replaced is the shelf tagged afresh, and a report names the cards that demand 3 says and counts as many
+ * rows as request 2.2 says. A case depends on the seed and its own number alone, so that a third argument runs a single
+ * case again. */
 #define _DEFAULT_SOURCE
 #include "gtm.h"
 #include "inputs.h"
@@ -388,6 +389,16 @@ static void count_turned(void)
     }
 }
 
+/* Document 02, 2.2, on a plane: k changed cards give at most k d + 1 disagreeing rows, and none where k is 0; where no row cancels, they give
+ * at least k (d + 1) - k (k - 1) / 2, so that one gives d + 1 and two give 2 d + 1. */
+static void check_rows(unsigned rows, unsigned changes, int premise)
+{
+    long d = cards.family->limit, k = changes;
+    long most = k == 0 ? 0 : k * d + 1, least = premise ? k * (d + 1) - k * (k - 1) / 2 : 0;
+    if (rows > most || rows < least)
+        differs("the rows where so many changed", rows, changes);
+}
+
 /* Demand 3: a report against the unaltered sheet names no unchanged card while at most d changed; and where no row cancels, it names every
  * changed card and gives the answer that goes with their number. */
 static void check_detection(struct result r)
@@ -406,6 +417,8 @@ static void check_detection(struct result r)
         differs("changed cards not named", missed, 0);
     if (premise && r.answer != (changes == 0 ? 0 : changes <= limit ? 1 : 2))
         differs("the answer where so many changed", (unsigned)r.answer, changes);
+    if (cards.family < families + PLANES)
+        check_rows(r.rows, changes, premise);
     premises[sheet_version][premise ? 0 : 1]++;
     if (premise)
         changed[cards.family - families][changes < limit + 2 ? changes : limit + 2]++;

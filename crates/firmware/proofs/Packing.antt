@@ -14,7 +14,7 @@ use Rattle.tagging.specs.Tagging.{keysIn}
 use Rattle.files.proofs.Passing.{given, kept}
 use Rattle.checks.specs.Refused.{reportRefusal}
 use Rattle.scheme.specs.Calls.{agrees, reportAnswer, reportNamed, reportRows}
-use Rattle.scheme.specs.Claim.{Claim}
+use Rattle.scheme.specs.Claim.{Claim, RowClaim}
 use Rattle.checks.specs.Passed.{Reportable}
 use Rattle.checks.proofs.Checking.{reportable, file-count}
 use Rattle.firmware.specs.Packed.{packed, packedYes, packedReport, numberIn, placeIn, yesIn, answerIn, namedIn, rowsIn, ReadsReport}
@@ -97,7 +97,7 @@ yes-back r t h = ap (λ (w : ℕ). w / 256 % 2) (sym (yes-done r t h)) ∙ go t
 pub packed-same : (r r′ : Refusal) (a a′ : Answer) (n n′ m m′ : ℕ) → r ≡ r′ → a ≡ a′ → n ≡ n′ → m ≡ m′ → packedReport r a n m ≡ packedReport r′ a′ n′ m′
 packed-same r r′ a a′ n n′ m m′ er ea en em = λ i. packedReport (er i) (ea i) (en i) (em i)
 
--- ---- demand 3 as C reads it
+-- ---- demand 3 and request 2.2 as C reads them
 
 -- few enough to fit their bits
 names-few : (keys s f out : List ℕ) → Reportable keys s f (length out) → numberNamed (familyOf (codeOf f)) (agrees (keysIn keys) s f) (itemCount s) < 65536
@@ -132,3 +132,6 @@ module _ (keys s f before : List ℕ) (r : Refusal) (a : Answer) (names rows w :
       let R = report-read in
       let t = ordinal-tells said a (es ∙ R .answer ∙ ap (λ (x : Answer). meaning x .ordinal) (sym ea)) in
       subst (λ (x : Answer). Claim keys s f marks (namedIn w) x) (sym t) (subst (λ (x : ℕ). Claim keys s f marks x a) (en ∙ sym (R .named)) (D (z e)))
+
+  pub rows-packed : (r .number ≡ 0 → RowClaim keys s f rows) → RowClaim keys s f (rowsIn w)
+  rows-packed D = subst (RowClaim keys s f) (em ∙ sym (report-read .disagreeing)) (D (z e))

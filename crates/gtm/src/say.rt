@@ -39,6 +39,10 @@ pub fn usage(fd: i32) {
         b"gtm sizes                                 each SIZE: the most cards, the tags, the limit and the sheet's bytes\n",
     );
     io::write_all(fd, b"gtm help                                  this text\n");
+    io::write_all(
+        fd,
+        b"Rows that disagree, at SIZE 1 to 4: limit + 1 for one altered card, 2 x limit + 1 for two, at most k x limit + 1 for k; fewer where changes cancel out.\n",
+    );
 }
 
 // The lines of the commands that take keys.
@@ -50,7 +54,7 @@ fn usage_with_keys(fd: i32) {
     io::write_all(fd, b"gtm verify KEYS SHELF SHEET               yes or no\n");
     io::write_all(
         fd,
-        b"gtm report KEYS SHELF SHEET               which cards were altered\n",
+        b"gtm report KEYS SHELF SHEET               which cards were altered, and how many rows of cards disagree\n",
     );
     io::write_all(
         fd,

@@ -62,6 +62,17 @@ pub count-split : (p q : ℕ → Bool) (n : ℕ) → countUpTo (λ i. p i && not
 count-split p q zero = refl
 count-split p q (suc n) = omega (arith, bit-split (p (suc n)) (q (suc n)), count-split p q n)
 
+-- those that pass one of two tests and those that pass both are those that pass the one and those that pass the other
+bit-both : (a b : Bool) → indicator (a || b) + indicator (a && b) ≡ indicator a + indicator b
+bit-both true true = refl
+bit-both true false = refl
+bit-both false true = refl
+bit-both false false = refl
+
+pub count-both : (p q : ℕ → Bool) (n : ℕ) → countUpTo (λ i. p i || q i) n + countUpTo (λ i. p i && q i) n ≡ countUpTo p n + countUpTo q n
+count-both p q zero = refl
+count-both p q (suc n) = omega (arith, bit-both (p (suc n)) (q (suc n)), count-both p q n)
+
 count-never : (n : ℕ) → countUpTo (λ i. false) n ≡ 0
 count-never zero = refl
 count-never (suc n) = omega (arith, count-never n)

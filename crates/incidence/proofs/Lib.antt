@@ -10,4 +10,5 @@ pub mod Detection
 pub mod Rejects
 pub mod Rowwise
 pub mod Walking
+pub mod Tallying
 pub mod Differences

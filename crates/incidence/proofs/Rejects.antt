@@ -1,8 +1,10 @@
 -- What demand 3, as `Detects` states it, rules out by itself, whatever the family and the code: a report that names every item, one that
--- names none, and one that always says "beyond". And how the statement passes to what is equal to it or asks for more.
-use Rattle.fips197.proofs.Kit.{_≡_, refl, _∙_, Bool, true, false, ℕ, _≤_, _<_, arith}
+-- names none, and one that always says "beyond". What request 2.2, as `Tallies` states it, tells the other way round. And how the two
+-- statements pass to what is equal to them or asks for more.
+use Rattle.fips197.proofs.Kit.{_≡_, refl, _∙_, Bool, true, false, ℕ, _+_, _-_, _*_, _/_, _≤_, _<_, arith, ltb, ltb-true, ltb-false}
 use Rattle.incidence.specs.Count.{countUpTo}
 use Rattle.incidence.specs.Detection.{Detects}
+use Rattle.incidence.specs.Tally.{Tallies}
 use Rattle.incidence.specs.declared.Answer.{Answer}
 use Rattle.incidence.specs.declared.Answer.the-variants.{Intact, Beyond}
 use Rattle.incidence.proofs.Booleans.{not-both}
@@ -26,6 +28,32 @@ not-always-beyond d n C changed marked c none D =
     let z : _≡_ {A = ℕ} 0 1 = cc in
     omega arith
 
+-- ---- what the number of rows tells of the number of changed items (document 02, 2.2)
+
+module _ (d n : ℕ) (C : Type 0) (changed : ℕ → Bool) (rows : ℕ) (T : Tallies d n C changed rows) where
+  -- more rows than k items give: more than k changed
+  pub tells-more : (k : ℕ) → k * d + 1 < rows → k < countUpTo changed n
+  tells-more k h = go (ltb k (countUpTo changed n)) refl
+    where
+      go : (b : Bool) → ltb k (countUpTo changed n) ≡ b → k < countUpTo changed n
+      go true e = ltb-true k (countUpTo changed n) e
+      go false e = absurd (omega (arith, T .most k (ltb-false k (countUpTo changed n) e)))
+
+  -- fewer rows than k items give: fewer than k changed
+  pub tells-fewer : C → (k : ℕ) → rows < k * (d + 1) - k * (k - 1) / 2 → countUpTo changed n < k
+  tells-fewer c k h = go (ltb (countUpTo changed n) k) refl
+    where
+      go : (b : Bool) → ltb (countUpTo changed n) k ≡ b → countUpTo changed n < k
+      go true e = ltb-true (countUpTo changed n) k e
+      go false e = absurd (omega (arith, T .least c k (ltb-false (countUpTo changed n) k e)))
+
+  -- d + 1 rows are those of one changed item, and 2 d + 1 those of two, and of no other number
+  pub tells-one : C → 2 ≤ d → rows ≡ d + 1 → countUpTo changed n ≡ 1
+  tells-one c h e = omega (arith, tells-more 0 (omega arith), tells-fewer c 2 (omega arith))
+
+  pub tells-two : C → 2 ≤ d → rows ≡ 2 * d + 1 → countUpTo changed n ≡ 2
+  tells-two c h e = omega (arith, tells-more 1 (omega arith), tells-fewer c 3 (omega arith))
+
 -- ---- passing on
 
 module _ (d n : ℕ) (C E : Type 0) (changed marked other : ℕ → Bool) (said : Answer) where
@@ -39,3 +67,7 @@ module _ (d n : ℕ) (C E : Type 0) (changed marked other : ℕ → Bool) (said 
     named = λ x. D .named (f x);
     beyond = λ x. D .beyond (f x);
   }
+
+-- the same of request 2.2
+pub tallies-as : (d n : ℕ) (C E : Type 0) (changed : ℕ → Bool) (rows : ℕ) → (E → C) → Tallies d n C changed rows → Tallies d n E changed rows
+tallies-as d n C E changed rows f T = record { one = λ x. T .one (f x); two = λ x. T .two (f x); least = λ x. T .least (f x); most = T .most }

@@ -1,9 +1,9 @@
 -- A family of rows (000, sections 2.1 and 4.3): the extended test matrix, its disjunctness, the tagged rows, and how the others are made
 -- of them. Everything above the planes and the affine sizes speaks of these names alone. Assumes nothing.
 use mathlib.Core.Path.{_≡_}
-use mathlib.Core.Bool.{Bool, true, false, xor}
+use mathlib.Core.Bool.{Bool, true, false, _&&_, xor}
 use mathlib.Core.List.{List, [], _∷_}
-use Prim.Native.Nat.{ℕ, _≤_, _<_}
+use Prim.Native.Nat.{ℕ, _+_, _≤_, _<_}
 use Rattle.incidence.specs.Count.{countUpTo, listed}
 
 -- 000, 4.3: the matrix with its extension rule. Items, rows and tags are numbered from 1.
@@ -67,3 +67,9 @@ pub record Lawful (F : Family) : Type 0 where
   -- a row without a tag is the XOR of the earlier rows that it is made of: it holds the items that an odd number of them hold
   pub earlier : (i : ℕ) → 1 ≤ i → i ≤ F .rows → F .tagOfRow i ≡ 0 → Earlier i (F .made i)
   pub adds-up : (i j : ℕ) → 1 ≤ i → i ≤ F .rows → F .tagOfRow i ≡ 0 → 1 ≤ j → j ≤ F .items → F .on i j ≡ parity (λ a. F .on a j) (F .made i)
+
+-- what a projective plane has besides (000, section 6.4): "a card is on d+1 rows" (document 01), and "two different places share exactly
+-- one row" (document 02, 2.2)
+pub record Projective (F : Family) : Type 0 where
+  pub weight : (j : ℕ) → 1 ≤ j → j ≤ F .items → countUpTo (λ i. F .on i j) (F .rows) ≡ F .limit + 1
+  pub meet : (j k : ℕ) → 1 ≤ j → j ≤ F .items → 1 ≤ k → k ≤ F .items → (k ≡ j → ⊥) → countUpTo (λ i. F .on i j && F .on i k) (F .rows) ≡ 1

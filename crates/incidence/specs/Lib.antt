@@ -4,3 +4,4 @@ pub mod Family
 pub mod Sum
 pub mod Report
 pub mod Detection
+pub mod Tally

@@ -1,5 +1,5 @@
 -- The code's tables are the definitions' lists. A table is tested at each of the five places of a column; past the end both are empty.
-use Rattle.fips197.proofs.Kit.{_≡_, refl, sym, ap, _∙_, Bool, true, false, _&&_, List, [], _∷_, ℕ, zero, suc, _+_, _-_, _≤_, _<_, arith, eqb, ltb, leb, length, getD, take, drop, List·getD-eq-default, ltb-true, ltb-false, leb-true, eqb-true}
+use Rattle.fips197.proofs.Kit.{_≡_, refl, sym, ap, _∙_, subst, Bool, true, false, _&&_, List, [], _∷_, ℕ, zero, suc, _+_, _-_, _≤_, _<_, arith, eqb, ltb, leb, length, getD, take, drop, List·getD-eq-default, ltb-true, ltb-false, leb-true, eqb-true}
 use Rattle.blocks.specs.Block.{same}
 use Rattle.blocks.proofs.Xor.{same-true}
 use Rattle.incidence.proofs.Booleans.{and-left, and-right}
@@ -143,6 +143,12 @@ tags-most = getD-most 82 tagCounts refl
 pub limit-most : (s : ℕ) → planeLimit s ≤ 273
 unfolding planeLimit limits most
 limit-most = getD-most 273 limits refl
+
+pub limit-least : (s : ℕ) → 1 ≤ s → s ≤ 4 → 2 ≤ planeLimit s
+unfolding planeLimit limits
+limit-least s l u =
+    let e : suc (s - 1) ≡ s = omega arith in
+    subst (λ (x : ℕ). 2 ≤ planeLimit x) e (leb-true 2 (planeLimit (suc (s - 1))) (every-at (λ k. leb 2 (planeLimit (suc k))) 4 refl (s - 1) (omega arith)))
 
 -- past the columns there is nothing
 pub no-items : (s : ℕ) → 5 ≤ s → planeItems s ≡ 0

@@ -1,8 +1,8 @@
--- The four planes are lawful families, with document 01's numbers: what the crates above use of them.
+-- The four planes are lawful and projective families, with document 01's numbers: what the crates above use of them.
 use Rattle.fips197.proofs.Kit.{_≡_, refl, ap, _∙_, Bool, true, false, _&&_, ℕ, suc, _≤_, _<_, arith, leb, leb-true, leb-false, le-leb}
 use Rattle.blocks.specs.Block.{if_then_else_}
 use Rattle.incidence.specs.Count.{countUpTo}
-use Rattle.incidence.specs.Family.{Disjunct, Lawful}
+use Rattle.incidence.specs.Family.{Disjunct, Lawful, Projective}
 use Rattle.incidence.proofs.Pigeonhole.{pigeonhole}
 use Rattle.plane.specs.Table.{planeItems, planeTags, planeLimit, differences, planePattern}
 use Rattle.plane.specs.Plane.{plane, tagged, pairs}
@@ -77,6 +77,11 @@ module _ (s : ℕ) (low : 1 ≤ s) (high : s ≤ 4) where
       → countUpTo (λ j. plane s .on i j && plane s .on k j) (planeItems s) ≡ 1
   unfolding plane
   share-one-item = rows-share (planeItems s) (planeTags s) (planeLimit s) (differences s) (planePattern s) R
+
+  -- what a plane has over any lawful family
+  pub projective : Projective (plane s)
+  unfolding plane
+  projective = record { weight = λ j l u. omega (arith, rows-of-item j l u); meet = share-one-row }
 
   -- "Hence d-disjunct"
   pub disjunct : Disjunct (plane s) (planeLimit s)

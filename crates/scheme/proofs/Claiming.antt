@@ -1,5 +1,5 @@
--- Demand 3 of Report: against an unaltered tag file, a row agrees where the XORs of its old and new hashes are equal; the rest is the
--- detection theorem of crate incidence.
+-- Demand 3 of Report, and request 2.2: against an unaltered tag file, a row agrees where the XORs of its old and new hashes are equal; the
+-- rest is the detection theorem and the counting theorem of crate incidence.
 use Rattle.fips197.proofs.Kit.{_≡_, refl, sym, ap, ap₂, _∙_, subst, Bool, true, false, not, List, [], _∷_, _++_, _⊎_, inl, inr, ℕ, zero, suc, _-_, _≤_, _<_, arith, le-of-suc-le-suc, eq-or-lt-of-le, eqb, length, getD, length-append, List·getD-append, getD-at}
 use Rattle.blocks.specs.Block.{Bytes, same}
 use Rattle.blocks.proofs.Xor.{same-true, same-eq}
@@ -7,30 +7,32 @@ use Rattle.incidence.specs.Count.{countUpTo}
 use Rattle.incidence.specs.Count.{indicator}
 use Rattle.incidence.specs.Family.{Family}
 use Rattle.incidence.specs.Sum.{rowSum}
-use Rattle.incidence.specs.Report.{named, numberNamed, answer}
+use Rattle.incidence.specs.Report.{named, numberNamed, disagreeing, answer}
 use Rattle.incidence.specs.Detection.{Detects, QuietRowsAgree, ChangedRowsDisagree}
+use Rattle.incidence.specs.Tally.{Tallies}
 use Rattle.incidence.specs.declared.Answer.{Answer}
 use Rattle.incidence.proofs.Booleans.{not-both, not-passed}
 use Rattle.incidence.proofs.Counting.{count-ext}
 use Rattle.incidence.proofs.Sums.{rowSum-same}
 use Rattle.incidence.proofs.Detection.{detects}
-use Rattle.incidence.proofs.Rejects.{detects-as}
-use Rattle.sizes.specs.Sizes.{familyOf}
-use Rattle.sizes.proofs.Laws.{lawful}
+use Rattle.incidence.proofs.Rejects.{detects-as, tallies-as}
+use Rattle.incidence.proofs.Tallying.{tallies}
+use Rattle.sizes.specs.Sizes.{planeCode, familyOf}
+use Rattle.sizes.proofs.Laws.{lawful, projective}
 use Rattle.files.specs.Message.{itemCount, item}
 use Rattle.stamp.specs.declared.Stamp.{Stamp}
-use Rattle.stamp.specs.Front.{stampFits, stampOf}
+use Rattle.stamp.specs.Front.{stampOf}
 use Rattle.files.specs.declared.tagfile.Head.{Head}
-use Rattle.files.specs.TagFile.{newestTagFile, codeOf, headOf, countFits}
+use Rattle.files.specs.TagFile.{codeOf, headOf, countFits}
 use Rattle.files.proofs.Accepted.{code-is, stamp-is}
 use Rattle.decoding.specs.Decoding.{marksOf}
 use Rattle.tagging.specs.declared.Keys.{Keys}
 use Rattle.tagging.specs.Tagging.{keysIn, hashes, fileOf, tagFile}
 use Rattle.scheme.specs.Calls.{stampIn, sumFrom, agrees}
-use Rattle.scheme.specs.Claim.{Unaltered, changed, NoRowCancels, marked, Claim}
+use Rattle.scheme.specs.Claim.{Unaltered, changed, marked, NoneCancels, Claim, RowClaim}
 use Rattle.checks.specs.Passed.{Reportable}
 use Rattle.tagging.proofs.Summing.{hashes-long}
-use Rattle.scheme.proofs.Unaltered as U
+use Rattle.scheme.proofs.Unaltered as unaltered
 use Rattle.scheme.proofs.Unaltered.{KeyBlocks, key-blocks}
 
 -- ---- the marks written
@@ -62,18 +64,34 @@ marked-is p n rest marks e j l u =
     (ap (λ (x : List ℕ). getD x (j - 1) 0) e ∙ List·getD-append (marksOf p n) rest 0 (j - 1) (omega (arith, marks-length p n)) ∙ mark-at p n (j - 1) (omega arith))
     ∙ bit-one (p (suc (j - 1))) ∙ ap p z
 
--- ---- the claim
+-- an unaltered file says the size code and the number that it was laid out for
+module _ (keys : List ℕ) (h : Head) (old : ℕ → List ℕ) (f : List ℕ) (U : Unaltered (keysIn keys) h old f) where
+  code-says : codeOf f ≡ h .code
+  unfolding tagFile fileOf
+  code-says = ap codeOf (U .file) ∙ code-is (keysIn keys .seal) h _ (U .stamped)
 
-module _ (K : Keys) (B : KeyBlocks K) (s : List ℕ) (h : Head) (stamped : stampFits newestTagFile (h .stamp) ≡ true) (fit : countFits (h .code) (h .count) ≡ true)
-    (old : ℕ → List ℕ) (bytes : (j : ℕ) → 1 ≤ j → j ≤ h .count → Bytes (old j)) (count : h .count ≡ itemCount s) (number : stampOf s .number ≡ h .stamp .number) where
+  pub number-says : stampOf f .number ≡ h .stamp .number
+  unfolding tagFile fileOf
+  number-says = ap (λ (x : List ℕ). stampOf x .number) (U .file) ∙ ap (λ (x : Stamp). x .number) (stamp-is (keysIn keys .seal) h _ (U .stamped))
+
+-- ---- a report that is not refused, against an unaltered file
+
+module _ (keys s f : List ℕ) (room : ℕ) (b : Bytes keys) (R : Reportable keys s f room) (h : Head) (old : ℕ → List ℕ) (U : Unaltered (keysIn keys) h old f)
+    (count : h .count ≡ itemCount s) where
+  abbrev K : Keys
+  K = keysIn keys
+
+  B : KeyBlocks K
+  B = key-blocks keys b (R .files .keys48)
+
+  fit : countFits (h .code) (h .count) ≡ true
+  fit = ap₂ countFits (sym (code-says keys h old f U)) (count ∙ R .files .counts) ∙ R .files .file .fits
+
   abbrev F : Family
   F = familyOf (h .code)
 
   abbrev n : ℕ
   n = itemCount s
-
-  abbrev f : List ℕ
-  f = tagFile K h old
 
   -- the items reported are hashed under the old stamp
   abbrev st : Stamp
@@ -81,17 +99,18 @@ module _ (K : Keys) (B : KeyBlocks K) (s : List ℕ) (h : Head) (stamped : stamp
 
   same-stamp : st ≡ h .stamp
   unfolding stampIn
-  same-stamp = λ i. record { version = h .stamp .version; number = number i }
+  same-stamp = λ i. record { version = h .stamp .version; number = (R .files .numbers ∙ number-says keys h old f U) i }
 
-  head-is : headOf f ≡ h
-  head-is = U.head-is K B h stamped fit old bytes
+  head-is : headOf (tagFile K h old) ≡ h
+  head-is = unaltered.head-is K B h (U .stamped) fit old (U .bytes)
 
   -- against the unaltered file, a row agrees where its sum is as it was
   row-agrees : (i : ℕ) → 1 ≤ i → i ≤ F .rows → agrees K s f i ≡ same (rowSum F (hashes K st (item s)) n i) (rowSum F (hashes K (h .stamp) old) n i)
   unfolding agrees sumFrom headOf stampOf
   row-agrees i l u =
-      ap₂ same (ap (λ (x : Head). rowSum (familyOf (x .code)) (hashes K (stampIn (x .stamp .version) s) (item s)) n i) head-is)
-      (U.rows-back K B h stamped fit old bytes i l u ∙ ap (λ (x : ℕ). rowSum F (hashes K (h .stamp) old) x i) count)
+      ap (λ (x : List ℕ). agrees K s x i) (U .file)
+      ∙ ap₂ same (ap (λ (x : Head). rowSum (familyOf (x .code)) (hashes K (stampIn (x .stamp .version) s) (item s)) n i) head-is)
+      (unaltered.rows-back K B h (U .stamped) fit old (U .bytes) i l u ∙ ap (λ (x : ℕ). rowSum F (hashes K (h .stamp) old) x i) count)
 
   quiet : QuietRowsAgree F n (changed old (item s)) (agrees K s f)
   unfolding changed hashes
@@ -107,7 +126,7 @@ module _ (K : Keys) (B : KeyBlocks K) (s : List ℕ) (h : Head) (stamped : stamp
           go true e = e
           go false e = absurd (not-both (F .on i j) o (h′ j a b (ap not e)))
 
-  loud : NoRowCancels F K (h .stamp) st old (item s) n → ChangedRowsDisagree F n (changed old (item s)) (agrees K s f)
+  loud : NoneCancels keys s h old → ChangedRowsDisagree F n (changed old (item s)) (agrees K s f)
   loud none i j l u a b ch o =
       not-passed (agrees K s f i) (λ t. none i (record {
         low = l;
@@ -120,44 +139,45 @@ module _ (K : Keys) (B : KeyBlocks K) (s : List ℕ) (h : Head) (stamped : stamp
         equal = sym (same-true _ _ (sym (row-agrees i l u) ∙ t));
       }))
 
-  claimed : (g marks rest : List ℕ) (names : ℕ) (said : Answer) → g ≡ f
-      → marks ≡ marksOf (named (familyOf (codeOf g)) (agrees K s g)) n ++ rest
-      → names ≡ numberNamed (familyOf (codeOf g)) (agrees K s g) n
-      → said ≡ answer (familyOf (codeOf g)) (agrees K s g) n
-      → Detects (F .limit) n (NoRowCancels F K (h .stamp) st old (item s) n) (changed old (item s)) (marked marks) said
+  many : n ≤ F .items
+  many = subst (λ (x : ℕ). x ≤ F .items) count (unaltered.fit-count K B h (U .stamped) fit old (U .bytes))
+
+  claimed : (marks rest : List ℕ) (names : ℕ) (said : Answer)
+      → marks ≡ marksOf (named (familyOf (codeOf f)) (agrees K s f)) n ++ rest
+      → names ≡ numberNamed (familyOf (codeOf f)) (agrees K s f) n
+      → said ≡ answer (familyOf (codeOf f)) (agrees K s f) n
+      → Detects (F .limit) n (NoneCancels keys s h old) (changed old (item s)) (marked marks) said
       × (names ≡ countUpTo (marked marks) n)
-  unfolding numberNamed headOf
-  claimed g marks rest names said ef em en es =
+  unfolding numberNamed
+  claimed marks rest names said em en es =
       let A = agrees K s f in
-      let e = ap (λ (x : Head). x .code) head-is in
-      let m = em ∙ ap (λ (x : List ℕ). marksOf (named (familyOf (codeOf x)) (agrees K s x)) n ++ rest) ef ∙ ap (λ (x : ℕ). marksOf (named (familyOf x) A) n ++ rest) e in
-      let a = es ∙ ap (λ (x : List ℕ). answer (familyOf (codeOf x)) (agrees K s x) n) ef ∙ ap (λ (x : ℕ). answer (familyOf x) A n) e in
-      let k = en ∙ ap (λ (x : List ℕ). numberNamed (familyOf (codeOf x)) (agrees K s x) n) ef ∙ ap (λ (x : ℕ). numberNamed (familyOf x) A n) e in
-      let many = subst (λ (x : ℕ). x ≤ F .items) count (U.fit-count K B h stamped fit old bytes) in (
-        subst (λ (x : Answer). Detects (F .limit) n (NoRowCancels F K (h .stamp) st old (item s) n) (changed old (item s)) (marked marks) x) (sym a)
+      let m = em ∙ ap (λ (x : ℕ). marksOf (named (familyOf x) A) n ++ rest) (code-says keys h old f U) in
+      let a = es ∙ ap (λ (x : ℕ). answer (familyOf x) A n) (code-says keys h old f U) in
+      let k = en ∙ ap (λ (x : ℕ). numberNamed (familyOf x) A n) (code-says keys h old f U) in (
+        subst (λ (x : Answer). Detects (F .limit) n (NoneCancels keys s h old) (changed old (item s)) (marked marks) x) (sym a)
             (detects-as (F .limit) n _ _ (changed old (item s)) (named F A) (marked marks) (answer F A n) loud
             (marked-is (named F A) n rest marks m)
-            (detects F (lawful (h .code) (U.fit-code K B h stamped fit old bytes)) n many (changed old (item s)) A quiet)),
+            (detects F (lawful (h .code) (unaltered.fit-code K B h (U .stamped) fit old (U .bytes))) n many (changed old (item s)) A quiet)),
         k ∙ sym (count-ext (marked marks) (named F A) n (marked-is (named F A) n rest marks m)),
       )
 
--- an unaltered file says the size code and the number that it was laid out for
-module _ (keys : List ℕ) (h : Head) (old : ℕ → List ℕ) (f : List ℕ) (U : Unaltered (keysIn keys) h old f) where
-  code-says : codeOf f ≡ h .code
-  unfolding tagFile fileOf
-  code-says = ap codeOf (U .file) ∙ code-is (keysIn keys .seal) h _ (U .stamped)
+  tallied : planeCode (h .code) ≡ true → (rows : ℕ) → rows ≡ disagreeing (agrees K s f) (familyOf (codeOf f) .rows)
+      → Tallies (F .limit) n (NoneCancels keys s h old) (changed old (item s)) rows
+  tallied plane rows er =
+      let A = agrees K s f in
+      let r = er ∙ ap (λ (x : ℕ). disagreeing A (familyOf x .rows)) (code-says keys h old f U) in
+      subst (Tallies (F .limit) n (NoneCancels keys s h old) (changed old (item s))) (sym r)
+      (tallies-as (F .limit) n _ _ (changed old (item s)) _ loud (tallies F (projective (h .code) plane) n many (changed old (item s)) A quiet))
 
-  pub number-says : stampOf f .number ≡ h .stamp .number
-  unfolding tagFile fileOf
-  number-says = ap (λ (x : List ℕ). stampOf x .number) (U .file) ∙ ap (λ (x : Stamp). x .number) (stamp-is (keysIn keys .seal) h _ (U .stamped))
+-- ---- the claims
 
--- of every report that is not refused
-pub claim : (keys s f marks rest : List ℕ) (room names : ℕ) (said : Answer) → Bytes keys → Reportable keys s f room
-    → marks ≡ marksOf (named (familyOf (codeOf f)) (agrees (keysIn keys) s f)) (itemCount s) ++ rest
-    → names ≡ numberNamed (familyOf (codeOf f)) (agrees (keysIn keys) s f) (itemCount s)
-    → said ≡ answer (familyOf (codeOf f)) (agrees (keysIn keys) s f) (itemCount s)
-    → Claim keys s f marks names said
-claim keys s f marks rest room names said b R em en es h old U ec =
-    let q = R .files in
-    let fit : countFits (h .code) (h .count) ≡ true = ap₂ countFits (sym (code-says keys h old f U)) (ec ∙ q .counts) ∙ q .file .fits in
-    claimed (keysIn keys) (key-blocks keys b (q .keys48)) s h (U .stamped) fit old (U .bytes) ec (q .numbers ∙ number-says keys h old f U) f marks rest names said (U .file) em en es
+module _ (keys s f : List ℕ) (room : ℕ) (b : Bytes keys) (R : Reportable keys s f room) where
+  pub claim : (marks rest : List ℕ) (names : ℕ) (said : Answer)
+      → marks ≡ marksOf (named (familyOf (codeOf f)) (agrees (keysIn keys) s f)) (itemCount s) ++ rest
+      → names ≡ numberNamed (familyOf (codeOf f)) (agrees (keysIn keys) s f) (itemCount s)
+      → said ≡ answer (familyOf (codeOf f)) (agrees (keysIn keys) s f) (itemCount s)
+      → Claim keys s f marks names said
+  claim marks rest names said em en es h old U count = claimed keys s f room b R h old U count marks rest names said em en es
+
+  pub row-claim : (rows : ℕ) → rows ≡ disagreeing (agrees (keysIn keys) s f) (familyOf (codeOf f) .rows) → RowClaim keys s f rows
+  row-claim rows er h old U count plane = tallied keys s f room b R h old U count plane rows er

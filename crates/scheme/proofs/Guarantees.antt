@@ -1,7 +1,7 @@
 -- What follows from the definitions of the calls, for a reader who wants to know what they are good for: Tag's file is accepted and
 -- verified, a report against an unaltered file of any version is not refused, but by 25 where the numbers differ, Replace is tagging afresh,
--- and demand 3 is met by no report that names every item, none, or says "beyond" of an unchanged message.
-use Rattle.fips197.proofs.Kit.{_≡_, refl, sym, ap, _∙_, Bool, true, false, List, [], _∷_, _++_, _↔_, ℕ, suc, _≤_, _<_, arith, length, drop, eq-eqb, ne-eqb, le-leb, lt-ltb}
+-- demand 3 is met by no report that names every item, none, or says "beyond" of an unchanged message, and what the number of rows tells.
+use Rattle.fips197.proofs.Kit.{_≡_, refl, sym, ap, _∙_, Bool, true, false, List, [], _∷_, _++_, _↔_, ℕ, suc, _+_, _*_, _≤_, _<_, arith, length, drop, eq-eqb, ne-eqb, le-leb, lt-ltb}
 use Rattle.blocks.specs.Block.{if_then_else_, Bytes, _⊕_, same, listOf}
 use Rattle.blocks.proofs.Xor.{same-true, same-eq, take-bytes, drop-bytes, ⊕-assoc}
 use Rattle.incidence.specs.Count.{countUpTo}
@@ -12,7 +12,9 @@ use Rattle.incidence.specs.declared.Answer.the-variants.{Intact, Beyond}
 use Rattle.incidence.proofs.Booleans.{not-both, and-both}
 use Rattle.incidence.proofs.Counting.{Found, found}
 use Rattle.incidence.proofs.Sums.{rowSum-same, rowSum-change}
-use Rattle.sizes.specs.Sizes.{familyOf}
+use Rattle.incidence.proofs.Rejects as R
+use Rattle.sizes.specs.Sizes.{planeCode, familyOf}
+use Rattle.sizes.proofs.Laws.{plane-limit}
 use Rattle.stamp.specs.declared.Stamp.{Stamp}
 use Rattle.stamp.specs.Front.{numberSize, stampFits, versionOf, stampOf}
 use Rattle.stamp.proofs.Fronts.{number-small}
@@ -28,7 +30,7 @@ use Rattle.tagging.specs.Tagging.{keysIn, hashes, tagSum, fileOf, tagFile, tagH
 use Rattle.tagging.proofs.Writing.{file-same}
 use Rattle.checks.specs.Refused.{refuse21, refuse25, tagRefusal, verifyRefusal, reportRefusal, replaceRefusal}
 use Rattle.scheme.specs.Calls.{stampIn, tagsFor, verifyYes, sumTagged, replacedSum, replacedItem, replaceWrites}
-use Rattle.scheme.specs.Claim.{Unaltered, changed, NoRowCancels, marked, Claim}
+use Rattle.scheme.specs.Claim.{Unaltered, changed, marked, NoneCancels, Claim, RowClaim}
 use Rattle.checks.proofs.Checking.{taggable, reportable}
 use Rattle.tagging.proofs.Summing.{hashes-long}
 use Rattle.scheme.proofs.Unaltered.{key-blocks, head-is, tags-are, accepted, sums-back}
@@ -250,24 +252,37 @@ old-unnoticed keys f j old other new room l o =
 
 module _ (keys s f marks : List ℕ) (names : ℕ) (said : Answer) (D : Claim keys s f marks names said) (h : Head) (old : ℕ → List ℕ)
     (U : Unaltered (keysIn keys) h old f) (count : h .count ≡ itemCount s) where
-  abbrev Free : Type 0
-  Free = NoRowCancels (familyOf (h .code)) (keysIn keys) (h .stamp) (stampIn (h .stamp .version) s) old (item s) (itemCount s)
-
   -- where at most d items changed and one did not, not every item is named
   pub never-all-named : countUpTo (changed old (item s)) (itemCount s) ≤ familyOf (h .code) .limit → (j : ℕ) → 1 ≤ j → j ≤ itemCount s → changed old (item s) j ≡ false
       → ((i : ℕ) → 1 ≤ i → i ≤ itemCount s → marked marks i ≡ true) → ⊥
   never-all-named few j l u same all = not-both (marked marks j) (all j l u) (D h old U count .0 .spares few j l u same)
 
   -- where an item changed and no row cancels, some item is named
-  pub never-none-named : Free → 0 < countUpTo (changed old (item s)) (itemCount s)
+  pub never-none-named : NoneCancels keys s h old → 0 < countUpTo (changed old (item s)) (itemCount s)
       → ((i : ℕ) → 1 ≤ i → i ≤ itemCount s → marked marks i ≡ false) → ⊥
   never-none-named free some all =
       let w : Found (changed old (item s)) (itemCount s) = found (changed old (item s)) (itemCount s) some in
       not-both (marked marks (w .at)) (D h old U count .0 .finds free (w .at) (w .low) (w .high) (w .passes)) (all (w .at) (w .low) (w .high))
 
   -- an unchanged message is not "beyond"
-  pub never-beyond : Free → countUpTo (changed old (item s)) (itemCount s) ≡ 0 → said ≡ Beyond → ⊥
+  pub never-beyond : NoneCancels keys s h old → countUpTo (changed old (item s)) (itemCount s) ≡ 0 → said ≡ Beyond → ⊥
   never-beyond free z b =
       let e : Beyond ≡ Intact = sym b ∙ D h old U count .0 .intact free .1 z in
       let z : _≡_ {A = ℕ} 0 1 = cc in
       omega arith
+
+-- ---- what the number of disagreeing rows tells, of a report on a plane against the unaltered file of the old items
+
+module _ (keys s f : List ℕ) (rows : ℕ) (D : RowClaim keys s f rows) (h : Head) (old : ℕ → List ℕ) (U : Unaltered (keysIn keys) h old f) (count : h .count ≡ itemCount s)
+    (plane : planeCode (h .code) ≡ true) where
+  -- where no row cancels, d + 1 rows are those of one changed item, and of no other number of them
+  pub rows-tell-one : NoneCancels keys s h old → rows ≡ familyOf (h .code) .limit + 1 → countUpTo (changed old (item s)) (itemCount s) ≡ 1
+  rows-tell-one free = R.tells-one _ _ _ _ rows (D h old U count plane) free (plane-limit (h .code) plane)
+
+  -- and 2 d + 1 those of two
+  pub rows-tell-two : NoneCancels keys s h old → rows ≡ 2 * familyOf (h .code) .limit + 1 → countUpTo (changed old (item s)) (itemCount s) ≡ 2
+  rows-tell-two free = R.tells-two _ _ _ _ rows (D h old U count plane) free (plane-limit (h .code) plane)
+
+  -- more than k d + 1 are those of more than k, whatever cancels
+  pub rows-tell-more : (k : ℕ) → k * familyOf (h .code) .limit + 1 < rows → k < countUpTo (changed old (item s)) (itemCount s)
+  rows-tell-more = R.tells-more _ _ _ _ rows (D h old U count plane)

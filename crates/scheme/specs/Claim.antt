@@ -1,5 +1,6 @@
 -- Demand 3 of document 00, in document 01's 'Words of demand 3', for one report: what holds of the bytes that it wrote and of its answer,
--- whatever was done to the items. `Detects` (crate incidence) has a field for each sentence of the demand. Assumes nothing.
+-- whatever was done to the items. `Detects` (crate incidence) has a field for each sentence of the demand. And request 2.2 of document 02,
+-- in the same words, of the number of rows that it returned (`Tallies`). Assumes nothing.
 use mathlib.Core.Path.{_≡_}
 use mathlib.Core.Bool.{Bool, true, not}
 use mathlib.Core.List.{List}
@@ -11,8 +12,9 @@ use Rattle.incidence.specs.Count.{countUpTo}
 use Rattle.incidence.specs.Family.{Family}
 use Rattle.incidence.specs.Sum.{rowSum}
 use Rattle.incidence.specs.Detection.{Detects}
+use Rattle.incidence.specs.Tally.{Tallies}
 use Rattle.incidence.specs.declared.Answer.{Answer}
-use Rattle.sizes.specs.Sizes.{familyOf}
+use Rattle.sizes.specs.Sizes.{planeCode, familyOf}
 use Rattle.files.specs.Message.{itemCount, item}
 use Rattle.stamp.specs.declared.Stamp.{Stamp}
 use Rattle.stamp.specs.Front.{stampFits}
@@ -55,14 +57,28 @@ NoRowCancels F keys before after old new n = (i : ℕ) → RowCancels F keys bef
 unfoldable pub marked : List ℕ → ℕ → Bool
 marked marks j = eqb (getD marks (j - 1) 0) 1
 
--- Demand 3, of a report with these keys, on message s and tag file f, that wrote these marks, returned this number of named items and
--- gave this answer: for every version, number and size code and all old items of the same count, where f is the unaltered tag file of the
--- old items under these keys. The number returned is that of the items named. Nothing is asked of the two numbers: that they are equal
--- wherever a report is not refused is a theorem (proofs/Guarantees.antt: same-number).
+-- ---- what is claimed of a report with these keys, on message s and tag file f
+
+-- Against an unaltered tag file: for every version, number and size code and all old items of the same count, where f is the unaltered tag
+-- file of the old items under these keys. Nothing is asked of the two numbers: that they are equal wherever a report is not refused is a
+-- theorem (proofs/Guarantees.antt: same-number).
+abbrev pub Against : List ℕ → List ℕ → List ℕ → (Head → (ℕ → List ℕ) → Type 0) → Type 0
+Against keys s f holds = (h : Head) (old : ℕ → List ℕ) → Unaltered (keysIn keys) h old f → h .count ≡ itemCount s → holds h old
+
+-- no row cancels between the old items and those of s
+abbrev pub NoneCancels : List ℕ → List ℕ → Head → (ℕ → List ℕ) → Type 0
+NoneCancels keys s h old =
+    NoRowCancels (familyOf (h .code)) (keysIn keys) (h .stamp) (stampIn (h .stamp .version) s) old (item s) (itemCount s)
+
+-- Demand 3, of the marks written, the number of named items returned and the answer. The number returned is that of the items named.
 abbrev pub Claim : List ℕ → List ℕ → List ℕ → List ℕ → ℕ → Answer → Type 0
 Claim keys s f marks names said =
-    (h : Head) (old : ℕ → List ℕ) → Unaltered (keysIn keys) h old f → h .count ≡ itemCount s
-    → Detects (familyOf (h .code) .limit) (itemCount s)
-    (NoRowCancels (familyOf (h .code)) (keysIn keys) (h .stamp) (stampIn (h .stamp .version) s) old (item s) (itemCount s))
-    (changed old (item s)) (marked marks) said
-    × (names ≡ countUpTo (marked marks) (itemCount s))
+    Against keys s f
+    (λ h old. Detects (familyOf (h .code) .limit) (itemCount s) (NoneCancels keys s h old) (changed old (item s)) (marked marks) said
+    × (names ≡ countUpTo (marked marks) (itemCount s)))
+
+-- Document 02, 2.2, of the number of disagreeing rows returned: "ticket 2.2's exact counts are for planes" (2.7).
+abbrev pub RowClaim : List ℕ → List ℕ → List ℕ → ℕ → Type 0
+RowClaim keys s f rows =
+    Against keys s f
+    (λ h old. planeCode (h .code) ≡ true → Tallies (familyOf (h .code) .limit) (itemCount s) (NoneCancels keys s h old) (changed old (item s)) rows)

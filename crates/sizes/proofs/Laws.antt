@@ -1,20 +1,20 @@
 -- What a crate above may use of the size codes: every known code's family is lawful, the numbers are small, and a code that is none has
 -- nothing. It needs nothing of planes and lines.
-use Rattle.fips197.proofs.Kit.{_≡_, refl, ap, _∙_, sym, Bool, true, false, List, _++_, _⊎_, inl, inr, ℕ, zero, suc, _/_, _%_, _≤_, _<_, arith, leb, length, getD, drop, List·getD-append, leb-true, leb-false}
+use Rattle.fips197.proofs.Kit.{_≡_, refl, ap, _∙_, sym, Bool, true, false, List, _++_, subst, _⊎_, inl, inr, ℕ, zero, suc, _/_, _%_, _≤_, _<_, arith, leb, length, getD, drop, List·getD-append, leb-true, leb-false}
 use Rattle.blocks.specs.Block.{if_then_else_}
 use Rattle.incidence.specs.Count.{inside}
-use Rattle.incidence.specs.Family.{Family, Lawful, itemsOf, tagsOf}
+use Rattle.incidence.specs.Family.{Family, Lawful, Projective, itemsOf, tagsOf}
 use Rattle.incidence.proofs.Booleans.{or-cases, or-first, or-second, not-both, not-passed}
 use Rattle.incidence.proofs.Counting.{inside-low, inside-high, inside-yes}
 use Rattle.plane.specs.Table.{itemCounts, planeItems, tagCounts, planeTags, limits, planeLimit}
 use Rattle.plane.specs.Plane.{plane}
 use Rattle.plane.proofs.Planes as planes
 use Rattle.plane.proofs.Walks as walks
-use Rattle.plane.proofs.Lookup.{items-most, tags-most, limit-most, no-items, no-tags, no-limit}
+use Rattle.plane.proofs.Lookup.{items-most, tags-most, limit-most, limit-least, no-items, no-tags, no-limit}
 use Rattle.affine.specs.Affine.{sized, affineFamily}
 use Rattle.affine.proofs.Computing.{of-both, sized-offered}
 use Rattle.affine.proofs.Affines as affines
-use Rattle.sizes.specs.Sizes.{affineCode, known, familyOf}
+use Rattle.sizes.specs.Sizes.{planeCode, affineCode, known, familyOf}
 
 -- ---- by kind
 
@@ -51,13 +51,31 @@ affine-high : (c : ℕ) → affineCode c ≡ true → c < 64
 unfolding affineCode
 affine-high c h = let n = of-both (λ s. s ≤ 3) (omega arith) (omega arith) (c / 16) (sized-offered (c / 16) (c % 16) h) in omega arith
 
-plane-code : (c : ℕ) → known c ≡ true → affineCode c ≡ false → inside 4 c ≡ true
+plane-code : (c : ℕ) → known c ≡ true → affineCode c ≡ false → planeCode c ≡ true
 unfolding known
-plane-code c h e = go (or-cases (inside 4 c) (affineCode c) h)
+plane-code c h e = go (or-cases (planeCode c) (affineCode c) h)
   where
-    go : (inside 4 c ≡ true) ⊎ (affineCode c ≡ true) → inside 4 c ≡ true
+    go : (planeCode c ≡ true) ⊎ (affineCode c ≡ true) → planeCode c ≡ true
     go (inl t) = t
     go (inr t) = absurd (not-both (affineCode c) t e)
+
+-- ---- a plane's code
+
+module _ (c : ℕ) (h : planeCode c ≡ true) where
+  plane-low : 1 ≤ c
+  unfolding planeCode
+  plane-low = inside-low 4 c h
+
+  plane-high : c ≤ 4
+  unfolding planeCode
+  plane-high = inside-high 4 c h
+
+  pub projective : Projective (familyOf c)
+  projective = subst Projective (plane-family c (sym (no-affine c plane-high)) refl) (planes.projective c plane-low plane-high)
+
+  pub plane-limit : 2 ≤ familyOf c .limit
+  unfolding plane
+  plane-limit = subst (λ (F : Family). 2 ≤ F .limit) (plane-family c (sym (no-affine c plane-high)) refl) (limit-least c plane-low plane-high)
 
 -- ---- a size code
 
@@ -66,15 +84,15 @@ module _ (c : ℕ) (h : known c ≡ true) where
   unfolding affineCode
   lawful =
       by-kind Lawful c (affines.lawful (c / 16) (c % 16))
-      (λ e. let t = plane-code c h e in planes.lawful c (inside-low 4 c t) (inside-high 4 c t))
+      (λ e. let t = plane-code c h e in planes.lawful c (plane-low c t) (plane-high c t))
 
   -- a size code is a byte
   pub code-byte : c < 256
   unfolding known
-  code-byte = go (or-cases (inside 4 c) (affineCode c) h)
+  code-byte = go (or-cases (planeCode c) (affineCode c) h)
     where
-      go : (inside 4 c ≡ true) ⊎ (affineCode c ≡ true) → c < 256
-      go (inl t) = omega (arith, inside-high 4 c t)
+      go : (planeCode c ≡ true) ⊎ (affineCode c ≡ true) → c < 256
+      go (inl t) = omega (arith, plane-high c t)
       go (inr t) = omega (arith, affine-high c t)
 
 -- at most 273, and 82 tags, whatever the code
@@ -101,8 +119,8 @@ pub record Empty (F : Family) : Type 0 where
   pub no-tags : F .tags ≡ 0
   pub no-limit : F .limit ≡ 0
 
-no-plane : (c : ℕ) → inside 4 c ≡ false → Empty (plane c)
-unfolding plane planeItems itemCounts planeTags tagCounts planeLimit limits
+no-plane : (c : ℕ) → planeCode c ≡ false → Empty (plane c)
+unfolding planeCode plane planeItems itemCounts planeTags tagCounts planeLimit limits
 no-plane zero h = record { no-items = refl; no-rows = refl; no-tags = refl; no-limit = refl }
 no-plane (suc c) h =
     record { no-items = no-items (suc c) past; no-rows = no-items (suc c) past; no-tags = no-tags (suc c) past; no-limit = no-limit (suc c) past }
@@ -116,7 +134,7 @@ no-plane (suc c) h =
 
 pub unknown : (c : ℕ) → known c ≡ false → Empty (familyOf c)
 unfolding known
-unknown c h = by-kind Empty c (λ e. absurd (not-both _ (or-second (inside 4 c) e) h)) (λ e. no-plane c (not-passed _ (λ t. not-both _ (or-first (affineCode c) t) h)))
+unknown c h = by-kind Empty c (λ e. absurd (not-both _ (or-second (planeCode c) e) h)) (λ e. no-plane c (not-passed _ (λ t. not-both _ (or-first (affineCode c) t) h)))
 
 -- a row's tag is never after the row
 pub tag-before : (c i : ℕ) → familyOf c .tagOfRow i ≤ i

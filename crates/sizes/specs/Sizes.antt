@@ -8,13 +8,17 @@ use Rattle.incidence.specs.Family.{Family}
 use Rattle.plane.specs.Plane.{plane}
 use Rattle.affine.specs.Affine.{sized, affineFamily}
 
+-- whether c is the code of a plane: 1 to 4
+unfoldable pub planeCode : ℕ → Bool
+planeCode c = inside 4 c
+
 -- whether c is the code of an affine size: "the size code is 16s+l"
 unfoldable pub affineCode : ℕ → Bool
 affineCode c = sized (c / 16) (c % 16)
 
--- whether c is a size code: 1 to 4, or that of an affine size
+-- whether c is a size code: that of a plane, or of an affine size
 unfoldable pub known : ℕ → Bool
-known c = inside 4 c || affineCode c
+known c = planeCode c || affineCode c
 
 -- the family of a size code: the affine one whose s and l it gives, or the plane whose s it is. A code that is none has no items, no rows
 -- and no tags.

@@ -1,6 +1,6 @@
--- What the call says, packed, and demand 3 of it (Packing).
+-- What the call says, packed, and demand 3 and request 2.2 of it (Packing).
 use Rattle.fips197.proofs.Kit.{_∙_, needs}
-use Rattle.firmware.proofs.Packing.{packed-same, report-read, claim-packed}
+use Rattle.firmware.proofs.Packing.{packed-same, report-read, claim-packed, rows-packed}
 use Rattle.firmware.proofs.gtm_report.Statement.{statement}
 use Rattle.firmware.proofs.gtm_report.Tie as tie
 
@@ -17,8 +17,12 @@ returns c =
         e .1 .0,
         (
           report-read (d .args .keys .now) (d .args .message .now) (d .args .tagfile .now) (d .args .marks .now) _ _ _ _ _ (e .0) (a .0) (a .1 .0) (a .1 .1 .0) w z,
-          λ q. claim-packed (d .args .keys .now) (d .args .message .now) (d .args .tagfile .now) (d .args .marks .now) _ _ _ _ _ (e .0) (a .0) (a .1 .0) (a .1 .1 .0) w z q _
-              (a .1 .1 .1),
+          (
+            λ q. claim-packed (d .args .keys .now) (d .args .message .now) (d .args .tagfile .now) (d .args .marks .now) _ _ _ _ _ (e .0) (a .0) (a .1 .0) (a .1 .1 .0) w z q _
+                (a .1 .1 .1 .0),
+            λ q. rows-packed (d .args .keys .now) (d .args .message .now) (d .args .tagfile .now) (d .args .marks .now) _ _ _ _ _ (e .0) (a .0) (a .1 .0) (a .1 .1 .0) w z q
+                (a .1 .1 .1 .1),
+          ),
         ),
       ),
     )

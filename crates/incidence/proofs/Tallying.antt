@@ -1,0 +1,171 @@
+-- The counting theorem (document 02, 2.2), for any projective family and any test of its rows that disagrees exactly where a changed item
+-- stands. Item by item: a changed one adds its d + 1 rows but for those that hold an earlier one, which are at most as many as these, and
+-- at least one where there is one.
+use Rattle.fips197.proofs.Kit.{_≡_, refl, sym, ap, _∙_, subst, Bool, true, false, not, _&&_, _||_, and-comm, and-true, _⊎_, inl, inr, ℕ, zero, suc, _+_, _-_, _*_, _/_, _≤_, _<_, eq-or-lt-of-le, add-mul, mul-comm, arith, not-true}
+use Rattle.incidence.specs.Count.{indicator, countUpTo}
+use Rattle.incidence.specs.Family.{Family, Projective}
+use Rattle.incidence.specs.Report.{disagreeing}
+use Rattle.incidence.specs.Detection.{QuietRowsAgree, ChangedRowsDisagree}
+use Rattle.incidence.specs.Tally.{Tallies}
+use Rattle.incidence.proofs.Booleans.{and-left, and-right, and-both, and-false-r, or-none, or-first, not-both, not-passed}
+use Rattle.incidence.proofs.Counting.{Found, last-or, found, any-found, any-some, count-ext, count-mono, count-none, count-some, count-both}
+use Rattle.incidence.proofs.Pigeonhole.{holdsOne, takes-few}
+
+-- ---- how many pairs k items have
+
+abbrev pairsOf : ℕ → ℕ
+pairsOf zero = 0
+pairsOf (suc k) = pairsOf k + k
+
+pairs-twice : (k : ℕ) → 2 * pairsOf (suc k) ≡ suc k * k
+pairs-twice zero = refl
+pairs-twice (suc k) =
+    let a : suc (suc k) ≡ suc k + 1 = omega arith in
+    let b : suc k ≡ k + 1 = omega arith in
+    omega (
+      arith,
+      pairs-twice k,
+      ap (λ (x : ℕ). x * suc k) a,
+      add-mul (suc k) 1 (suc k),
+      ap (λ (x : ℕ). x * suc k) b,
+      add-mul k 1 (suc k),
+      mul-comm k (suc k),
+    )
+
+pairs-half : (k : ℕ) → pairsOf k ≡ k * (k - 1) / 2
+pairs-half zero = refl
+pairs-half (suc k) = let e : suc k - 1 ≡ k = omega arith in rw e (omega (arith, pairs-twice k))
+
+-- ---- item by item
+
+module _ (F : Family) (P : Projective F) (changed : ℕ → Bool) where
+  abbrev d : ℕ
+  d = F .limit
+
+  -- the rows that hold a changed one of the items 1 to m, and those of them that hold the next item too
+  abbrev held : ℕ → ℕ
+  held m = countUpTo (holdsOne F changed m) (F .rows)
+
+  abbrev shared : ℕ → ℕ
+  shared m = countUpTo (λ i. F .on i (suc m) && holdsOne F changed m i) (F .rows)
+
+  held-none : (m : ℕ) → countUpTo changed m ≡ 0 → held m ≡ 0
+  held-none m z =
+      count-none (holdsOne F changed m) (F .rows) (λ i l u t.
+      let f : Found (λ j. F .on i j && changed j) m = any-found (λ j. F .on i j && changed j) m t in
+      let some : 0 < countUpTo changed m = count-some changed m (f .at) (f .low) (f .high) (and-right (F .on i (f .at)) _ (f .passes)) in
+      omega arith)
+
+  held-more : (m : ℕ) → held m ≤ held (suc m)
+  held-more m = count-mono (holdsOne F changed m) (holdsOne F changed (suc m)) (F .rows) (λ i l u. or-first _)
+
+  -- an unchanged item adds no row
+  adds-none : (m : ℕ) → changed (suc m) ≡ false → held (suc m) ≡ held m
+  adds-none m e =
+      count-ext (holdsOne F changed (suc m)) (holdsOne F changed m) (F .rows)
+      (λ i l u. or-none (holdsOne F changed m i) (F .on i (suc m) && changed (suc m)) (and-false-r (F .on i (suc m)) (changed (suc m)) e))
+
+  -- a changed one adds its own but for the shared ones
+  adds-own : (m : ℕ) → suc m ≤ F .items → changed (suc m) ≡ true → held (suc m) + shared m ≡ held m + (d + 1)
+  adds-own m u e =
+      omega (
+        arith,
+        count-ext (holdsOne F changed (suc m)) (λ i. holdsOne F changed m i || F .on i (suc m)) (F .rows) (λ i a b. rw (e, and-true (F .on i (suc m)))),
+        count-ext (λ i. holdsOne F changed m i && F .on i (suc m)) (λ i. F .on i (suc m) && holdsOne F changed m i) (F .rows)
+            (λ i a b. and-comm (holdsOne F changed m i) (F .on i (suc m))),
+        count-both (holdsOne F changed m) (λ i. F .on i (suc m)) (F .rows),
+        P .weight (suc m) (omega arith) u,
+      )
+
+  -- the shared ones: at most as many as the earlier changed items, and one where there is such an item
+  shared-most : (m : ℕ) → suc m ≤ F .items → shared m ≤ countUpTo changed m
+  shared-most m u =
+      takes-few F changed (λ i. F .on i (suc m)) m (λ k a b c.
+      omega (arith, P .meet (suc m) k (omega arith) u a (omega arith) (λ (e : k ≡ suc m). omega arith)))
+
+  shared-some : (m : ℕ) → suc m ≤ F .items → 0 < countUpTo changed m → 1 ≤ shared m
+  shared-some m u h =
+      let f : Found changed m = found changed m h in
+      let w = f .high in
+      omega (
+        arith,
+        P .meet (suc m) (f .at) (omega arith) u (f .low) (omega arith) (λ (e : f .at ≡ suc m). omega arith),
+        count-mono (λ i. F .on i (suc m) && F .on i (f .at)) (λ i. F .on i (suc m) && holdsOne F changed m i) (F .rows)
+            (λ i a b t. and-both (and-left (F .on i (suc m)) _ t) (any-some (λ j. F .on i j && changed j) m (f .at) (f .low) w (and-both (and-right (F .on i (suc m)) _ t) (f .passes)))),
+      )
+
+  -- k changed items or more are on at least k (d + 1) rows but one for each two of the k
+  held-least : (m : ℕ) → m ≤ F .items → (k : ℕ) → k ≤ countUpTo changed m → k * (d + 1) ≤ held m + pairsOf k
+  held-least zero u k h = let e : k ≡ 0 = omega arith in rw e (omega arith)
+  held-least (suc m) u k h = go (held-least m (omega arith)) (changed (suc m)) refl
+    where
+      c : ℕ
+      c = countUpTo changed m
+
+      next : ((k : ℕ) → k ≤ c → k * (d + 1) ≤ held m + pairsOf k) → changed (suc m) ≡ true → (k ≡ suc c) ⊎ (k ≤ c) → k * (d + 1) ≤ held (suc m) + pairsOf k
+      next rest e (inr b) = omega (arith, held-more m, rest k b)
+      next rest e (inl q) =
+          let s : suc c ≡ c + 1 = omega arith in
+          subst (λ (x : ℕ). x * (d + 1) ≤ held (suc m) + pairsOf x) (sym q)
+          (omega (arith, ap (λ (x : ℕ). x * (d + 1)) s, add-mul c 1 (d + 1), adds-own m u e, shared-most m u, rest c (omega arith)))
+
+      go : ((k : ℕ) → k ≤ c → k * (d + 1) ≤ held m + pairsOf k) → (b : Bool) → changed (suc m) ≡ b → k * (d + 1) ≤ held (suc m) + pairsOf k
+      go rest true e = next rest e (last-or k c (omega (arith, ap indicator e)))
+      go rest false e = omega (arith, held-more m, rest k (omega (arith, ap indicator e)))
+
+  -- k or fewer are on at most d rows each and one
+  held-most : (m : ℕ) → m ≤ F .items → (k : ℕ) → countUpTo changed m ≤ k → held m ≤ k * d + 1
+  held-most zero u k h = omega (arith, held-none zero refl)
+  held-most (suc m) u k h = go (held-most m (omega arith)) (changed (suc m)) refl
+    where
+      c : ℕ
+      c = countUpTo changed m
+
+      less : changed (suc m) ≡ true → k * d ≡ (k - 1) * d + 1 * d
+      less e = let q : k ≡ k - 1 + 1 = omega (arith, ap indicator e) in ap (λ (x : ℕ). x * d) q ∙ add-mul (k - 1) 1 d
+
+      next : ((k : ℕ) → c ≤ k → held m ≤ k * d + 1) → changed (suc m) ≡ true → (0 ≡ c) ⊎ (0 < c) → held (suc m) ≤ k * d + 1
+      next rest e (inl z) = omega (arith, less e, adds-own m u e, held-none m (sym z))
+      next rest e (inr p) =
+          omega (arith, less e, adds-own m u e, shared-some m u p, rest (k - 1) (omega (arith, ap indicator e)))
+
+      go : ((k : ℕ) → c ≤ k → held m ≤ k * d + 1) → (b : Bool) → changed (suc m) ≡ b → held (suc m) ≤ k * d + 1
+      go rest true e = let l : 0 ≤ c = omega arith in next rest e (eq-or-lt-of-le l)
+      go rest false e = omega (arith, adds-none m e, rest k (omega (arith, ap indicator e)))
+
+-- ---- the theorem
+
+module _ (F : Family) (P : Projective F) (n : ℕ) (fits : n ≤ F .items) (changed agrees : ℕ → Bool) (quiet : QuietRowsAgree F n changed agrees) where
+  -- a row that disagrees holds a changed item
+  holds-changed : (i : ℕ) → 1 ≤ i → i ≤ F .rows → not (agrees i) ≡ true → holdsOne F changed n i ≡ true
+  holds-changed i l u t = go (holdsOne F changed n i) refl
+    where
+      go : (b : Bool) → holdsOne F changed n i ≡ b → holdsOne F changed n i ≡ true
+      go true e = e
+      go false e =
+          absurd (not-both (agrees i)
+          (quiet i l u (λ j a b c. not-passed (F .on i j) (λ o. not-both _ (any-some (λ m. F .on i m && changed m) n j a b (and-both o c)) e))) (not-true (agrees i) t))
+
+  most : (k : ℕ) → countUpTo changed n ≤ k → disagreeing agrees (F .rows) ≤ k * F .limit + 1
+  unfolding disagreeing
+  most k h = omega (arith, count-mono (λ r. not (agrees r)) (holdsOne F changed n) (F .rows) holds-changed, held-most F P changed n fits k h)
+
+  module _ (loud : ChangedRowsDisagree F n changed agrees) where
+    -- a row that holds a changed item disagrees
+    disagrees : (i : ℕ) → 1 ≤ i → i ≤ F .rows → holdsOne F changed n i ≡ true → not (agrees i) ≡ true
+    disagrees i l u e =
+        let f : Found (λ j. F .on i j && changed j) n = any-found (λ j. F .on i j && changed j) n e in
+        ap not (loud i (f .at) l u (f .low) (f .high) (and-right (F .on i (f .at)) _ (f .passes)) (and-left (F .on i (f .at)) _ (f .passes)))
+
+    least : (k : ℕ) → k ≤ countUpTo changed n → k * (F .limit + 1) - k * (k - 1) / 2 ≤ disagreeing agrees (F .rows)
+    unfolding disagreeing
+    least k h =
+        omega (arith, count-mono (holdsOne F changed n) (λ r. not (agrees r)) (F .rows) disagrees, pairs-half k, held-least F P changed n fits k h)
+
+  pub tallies : Tallies (F .limit) n (ChangedRowsDisagree F n changed agrees) changed (disagreeing agrees (F .rows))
+  tallies = record {
+    one = λ loud e. omega (arith, least loud 1 (omega arith), most 1 (omega arith));
+    two = λ loud e. omega (arith, least loud 2 (omega arith), most 2 (omega arith));
+    least = least;
+    most = most;
+  }
