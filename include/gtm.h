@@ -87,8 +87,9 @@ uint64_t gtm_verify(const uint8_t *keys, size_t keys_len, const uint8_t *shelf, 
 /* Which cards were altered: writes a byte for each card of the shelf, 1 named and 0 cleared. gtm_answer(), gtm_named() and gtm_rows() of the
  * result are the answer, the number of cards named and the number of rows that disagree.
  *
- * At sizes 1 to 4, with the limit d and an unaltered sheet, the rows tell how many cards were altered: d + 1 rows disagree exactly when one
- * was, and 2 d + 1 exactly when two were, unless the changes of a row cancel out; and more than k d + 1 only when more than k were. */
+ * At sizes 1 to 4, with d the last number of the size's line above and an unaltered sheet, the rows tell how many cards were altered: d + 1
+ * disagree exactly when one was, and 2 d + 1 exactly when two were, unless the changes of a row cancel out; and more than k d + 1 only when
+ * more than k were. */
 uint64_t gtm_report(const uint8_t *keys, size_t keys_len, const uint8_t *shelf, size_t shelf_len, const uint8_t *sheet,
                     size_t sheet_len, uint8_t *marks, size_t marks_len);
 

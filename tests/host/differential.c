@@ -389,14 +389,14 @@ static void count_turned(void)
     }
 }
 
-/* Document 02, 2.2, on a plane: k changed cards give at most k d + 1 disagreeing rows, and none where k is 0; where no row cancels, they give
- * at least k (d + 1) - k (k - 1) / 2, so that one gives d + 1 and two give 2 d + 1. */
-static void check_rows(unsigned rows, unsigned changes, int premise)
+/* Document 02, 2.2, of a plane and its unaltered sheet: k changed cards give at most k d + 1 disagreeing rows, and none where k is 0; where
+ * no row cancels, they give at least k (d + 1) - k (k - 1) / 2, so that one gives d + 1 and two give 2 d + 1. */
+static void check_row_count(long rows, unsigned changes, int premise)
 {
     long d = cards.family->limit, k = changes;
     long most = k == 0 ? 0 : k * d + 1, least = premise ? k * (d + 1) - k * (k - 1) / 2 : 0;
     if (rows > most || rows < least)
-        differs("the rows where so many changed", rows, changes);
+        differs("the rows where so many changed", (unsigned long)rows, changes);
 }
 
 /* Demand 3: a report against the unaltered sheet names no unchanged card while at most d changed; and where no row cancels, it names every
@@ -418,7 +418,7 @@ static void check_detection(struct result r)
     if (premise && r.answer != (changes == 0 ? 0 : changes <= limit ? 1 : 2))
         differs("the answer where so many changed", (unsigned)r.answer, changes);
     if (cards.family < families + PLANES)
-        check_rows(r.rows, changes, premise);
+        check_row_count(r.rows, changes, premise);
     premises[sheet_version][premise ? 0 : 1]++;
     if (premise)
         changed[cards.family - families][changes < limit + 2 ? changes : limit + 2]++;

@@ -41,8 +41,9 @@ pub fn usage(fd: i32) {
     io::write_all(fd, b"gtm help                                  this text\n");
     io::write_all(
         fd,
-        b"Rows that disagree, at SIZE 1 to 4: limit + 1 for one altered card, 2 x limit + 1 for two, at most k x limit + 1 for k; fewer where changes cancel out.\n",
+        b"Rows that disagree, at SIZE 1 to 4: limit + 1 for one altered card, 2 x limit + 1 for two, at most k x limit + 1\n",
     );
+    io::write_all(fd, b"for k; fewer where changes cancel out.\n");
 }
 
 // The lines of the commands that take keys.

@@ -30,9 +30,9 @@ pub or-second : (a : Bool) {b : Bool} → b ≡ true → a || b ≡ true
 or-second true p = refl
 or-second false p = p
 
-pub or-none : (a b : Bool) → b ≡ false → a || b ≡ a
-or-none true b p = refl
-or-none false b p = p
+pub or-false-r : (a b : Bool) → b ≡ false → a || b ≡ a
+or-false-r true b p = refl
+or-false-r false b p = p
 
 pub and-or : (a b c : Bool) → a && (b || c) ≡ (a && b) || (a && c)
 and-or true b c = refl

@@ -62,7 +62,7 @@ pub count-split : (p q : ℕ → Bool) (n : ℕ) → countUpTo (λ i. p i && not
 count-split p q zero = refl
 count-split p q (suc n) = omega (arith, bit-split (p (suc n)) (q (suc n)), count-split p q n)
 
--- those that pass one of two tests and those that pass both are those that pass the one and those that pass the other
+-- those that pass at least one of two tests and those that pass both are those that pass the one and those that pass the other
 bit-both : (a b : Bool) → indicator (a || b) + indicator (a && b) ≡ indicator a + indicator b
 bit-both true true = refl
 bit-both true false = refl

@@ -31,6 +31,14 @@ not-always-beyond d n C changed marked c none D =
 -- ---- what the number of rows tells of the number of changed items (document 02, 2.2)
 
 module _ (d n : ℕ) (C : Type 0) (changed : ℕ → Bool) (rows : ℕ) (T : Tallies d n C changed rows) where
+  -- a row disagrees: some item changed
+  pub tells-some : 0 < rows → 0 < countUpTo changed n
+  tells-some h = go (ltb 0 (countUpTo changed n)) refl
+    where
+      go : (b : Bool) → ltb 0 (countUpTo changed n) ≡ b → 0 < countUpTo changed n
+      go true e = ltb-true 0 (countUpTo changed n) e
+      go false e = let z : countUpTo changed n ≡ 0 = omega (arith, ltb-false 0 (countUpTo changed n) e) in absurd (omega (arith, T .none z))
+
   -- more rows than k items give: more than k changed
   pub tells-more : (k : ℕ) → k * d + 1 < rows → k < countUpTo changed n
   tells-more k h = go (ltb k (countUpTo changed n)) refl
@@ -70,4 +78,4 @@ module _ (d n : ℕ) (C E : Type 0) (changed marked other : ℕ → Bool) (said 
 
 -- the same of request 2.2
 pub tallies-as : (d n : ℕ) (C E : Type 0) (changed : ℕ → Bool) (rows : ℕ) → (E → C) → Tallies d n C changed rows → Tallies d n E changed rows
-tallies-as d n C E changed rows f T = record { one = λ x. T .one (f x); two = λ x. T .two (f x); least = λ x. T .least (f x); most = T .most }
+tallies-as d n C E changed rows f T = record { none = T .none; one = λ x. T .one (f x); two = λ x. T .two (f x); least = λ x. T .least (f x); most = T .most }

@@ -1,13 +1,13 @@
--- The counting theorem (document 02, 2.2), for any projective family and any test of its rows that disagrees exactly where a changed item
--- stands. Item by item: a changed one adds its d + 1 rows but for those that hold an earlier one, which are at most as many as these, and
--- at least one where there is one.
+-- The counting theorem (document 02, 2.2), for any projective family and any test of its rows by which a row without a changed item agrees
+-- and, where no row cancels, every other disagrees. Item by item: a changed one adds its d + 1 rows but for those that hold an earlier changed
+-- one, which are at most as many as these, and at least one where there is one.
 use Rattle.fips197.proofs.Kit.{_≡_, refl, sym, ap, _∙_, subst, Bool, true, false, not, _&&_, _||_, and-comm, and-true, _⊎_, inl, inr, ℕ, zero, suc, _+_, _-_, _*_, _/_, _≤_, _<_, eq-or-lt-of-le, add-mul, mul-comm, arith, not-true}
 use Rattle.incidence.specs.Count.{indicator, countUpTo}
 use Rattle.incidence.specs.Family.{Family, Projective}
 use Rattle.incidence.specs.Report.{disagreeing}
 use Rattle.incidence.specs.Detection.{QuietRowsAgree, ChangedRowsDisagree}
 use Rattle.incidence.specs.Tally.{Tallies}
-use Rattle.incidence.proofs.Booleans.{and-left, and-right, and-both, and-false-r, or-none, or-first, not-both, not-passed}
+use Rattle.incidence.proofs.Booleans.{and-left, and-right, and-both, and-false-r, or-false-r, or-first, not-both, not-passed}
 use Rattle.incidence.proofs.Counting.{Found, last-or, found, any-found, any-some, count-ext, count-mono, count-none, count-some, count-both}
 use Rattle.incidence.proofs.Pigeonhole.{holdsOne, takes-few}
 
@@ -63,7 +63,7 @@ module _ (F : Family) (P : Projective F) (changed : ℕ → Bool) where
   adds-none : (m : ℕ) → changed (suc m) ≡ false → held (suc m) ≡ held m
   adds-none m e =
       count-ext (holdsOne F changed (suc m)) (holdsOne F changed m) (F .rows)
-      (λ i l u. or-none (holdsOne F changed m i) (F .on i (suc m) && changed (suc m)) (and-false-r (F .on i (suc m)) (changed (suc m)) e))
+      (λ i l u. or-false-r (holdsOne F changed m i) (F .on i (suc m) && changed (suc m)) (and-false-r (F .on i (suc m)) (changed (suc m)) e))
 
   -- a changed one adds its own but for the shared ones
   adds-own : (m : ℕ) → suc m ≤ F .items → changed (suc m) ≡ true → held (suc m) + shared m ≡ held m + (d + 1)
@@ -146,9 +146,16 @@ module _ (F : Family) (P : Projective F) (n : ℕ) (fits : n ≤ F .items) (chan
           absurd (not-both (agrees i)
           (quiet i l u (λ j a b c. not-passed (F .on i j) (λ o. not-both _ (any-some (λ m. F .on i m && changed m) n j a b (and-both o c)) e))) (not-true (agrees i) t))
 
-  most : (k : ℕ) → countUpTo changed n ≤ k → disagreeing agrees (F .rows) ≤ k * F .limit + 1
+  -- so no more rows disagree than hold one
+  no-more : disagreeing agrees (F .rows) ≤ countUpTo (holdsOne F changed n) (F .rows)
   unfolding disagreeing
-  most k h = omega (arith, count-mono (λ r. not (agrees r)) (holdsOne F changed n) (F .rows) holds-changed, held-most F P changed n fits k h)
+  no-more = count-mono (λ r. not (agrees r)) (holdsOne F changed n) (F .rows) holds-changed
+
+  none : countUpTo changed n ≡ 0 → disagreeing agrees (F .rows) ≡ 0
+  none h = omega (arith, no-more, held-none F P changed n h)
+
+  most : (k : ℕ) → countUpTo changed n ≤ k → disagreeing agrees (F .rows) ≤ k * F .limit + 1
+  most k h = omega (arith, no-more, held-most F P changed n fits k h)
 
   module _ (loud : ChangedRowsDisagree F n changed agrees) where
     -- a row that holds a changed item disagrees
@@ -164,6 +171,7 @@ module _ (F : Family) (P : Projective F) (n : ℕ) (fits : n ≤ F .items) (chan
 
   pub tallies : Tallies (F .limit) n (ChangedRowsDisagree F n changed agrees) changed (disagreeing agrees (F .rows))
   tallies = record {
+    none = none;
     one = λ loud e. omega (arith, least loud 1 (omega arith), most 1 (omega arith));
     two = λ loud e. omega (arith, least loud 2 (omega arith), most 2 (omega arith));
     least = least;

@@ -1,5 +1,6 @@
--- A family of rows (000, sections 2.1 and 4.3): the extended test matrix, its disjunctness, the tagged rows, and how the others are made
--- of them. Everything above the planes and the affine sizes speaks of these names alone. Assumes nothing.
+-- A family of rows (000, sections 2.1 and 4.3): the extended test matrix, its disjunctness, the tagged rows, how the others are made of
+-- them, and what a projective plane has besides. Everything above the planes and the affine sizes speaks of these names alone. Assumes
+-- nothing.
 use mathlib.Core.Path.{_≡_}
 use mathlib.Core.Bool.{Bool, true, false, _&&_, xor}
 use mathlib.Core.List.{List, [], _∷_}

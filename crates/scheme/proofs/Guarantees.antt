@@ -12,7 +12,7 @@ use Rattle.incidence.specs.declared.Answer.the-variants.{Intact, Beyond}
 use Rattle.incidence.proofs.Booleans.{not-both, and-both}
 use Rattle.incidence.proofs.Counting.{Found, found}
 use Rattle.incidence.proofs.Sums.{rowSum-same, rowSum-change}
-use Rattle.incidence.proofs.Rejects as R
+use Rattle.incidence.proofs.Rejects as rejects
 use Rattle.sizes.specs.Sizes.{planeCode, familyOf}
 use Rattle.sizes.proofs.Laws.{plane-limit}
 use Rattle.stamp.specs.declared.Stamp.{Stamp}
@@ -277,12 +277,15 @@ module _ (keys s f : List ℕ) (rows : ℕ) (D : RowClaim keys s f rows) (h : He
     (plane : planeCode (h .code) ≡ true) where
   -- where no row cancels, d + 1 rows are those of one changed item, and of no other number of them
   pub rows-tell-one : NoneCancels keys s h old → rows ≡ familyOf (h .code) .limit + 1 → countUpTo (changed old (item s)) (itemCount s) ≡ 1
-  rows-tell-one free = R.tells-one _ _ _ _ rows (D h old U count plane) free (plane-limit (h .code) plane)
+  rows-tell-one free = rejects.tells-one _ _ _ _ rows (D h old U count plane) free (plane-limit (h .code) plane)
 
   -- and 2 d + 1 those of two
   pub rows-tell-two : NoneCancels keys s h old → rows ≡ 2 * familyOf (h .code) .limit + 1 → countUpTo (changed old (item s)) (itemCount s) ≡ 2
-  rows-tell-two free = R.tells-two _ _ _ _ rows (D h old U count plane) free (plane-limit (h .code) plane)
+  rows-tell-two free = rejects.tells-two _ _ _ _ rows (D h old U count plane) free (plane-limit (h .code) plane)
 
-  -- more than k d + 1 are those of more than k, whatever cancels
+  -- any row is that of some changed item, and more than k d + 1 are those of more than k, whatever cancels
+  pub rows-tell-some : 0 < rows → 0 < countUpTo (changed old (item s)) (itemCount s)
+  rows-tell-some = rejects.tells-some _ _ _ _ rows (D h old U count plane)
+
   pub rows-tell-more : (k : ℕ) → k * familyOf (h .code) .limit + 1 < rows → k < countUpTo (changed old (item s)) (itemCount s)
-  rows-tell-more = R.tells-more _ _ _ _ rows (D h old U count plane)
+  rows-tell-more = rejects.tells-more _ _ _ _ rows (D h old U count plane)

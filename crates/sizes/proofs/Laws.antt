@@ -1,5 +1,5 @@
--- What a crate above may use of the size codes: every known code's family is lawful, the numbers are small, and a code that is none has
--- nothing. It needs nothing of planes and lines.
+-- What a crate above may use of the size codes: every known code's family is lawful, a plane's is projective and its limit at least 2, the
+-- numbers are small, and a code that is none has nothing. It needs nothing else of planes, and nothing of lines.
 use Rattle.fips197.proofs.Kit.{_≡_, refl, ap, _∙_, sym, Bool, true, false, List, _++_, subst, _⊎_, inl, inr, ℕ, zero, suc, _/_, _%_, _≤_, _<_, arith, leb, length, getD, drop, List·getD-append, leb-true, leb-false}
 use Rattle.blocks.specs.Block.{if_then_else_}
 use Rattle.incidence.specs.Count.{inside}

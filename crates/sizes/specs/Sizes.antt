@@ -1,5 +1,5 @@
--- Document 01, Planes, and document 02, 2.7: the size codes. The one place that names them; everything above speaks of `known` and `familyOf`
--- alone. Assumes nothing.
+-- Document 01, Planes, and document 02, 2.7: the size codes. The one place that names them; everything above speaks of `known`, `familyOf`
+-- and, where request 2.2 tells planes apart, `planeCode` alone. Assumes nothing.
 use mathlib.Core.Bool.{Bool, _||_}
 use Prim.Native.Nat.{ℕ, _/_, _%_}
 use Rattle.blocks.specs.Block.{if_then_else_}
