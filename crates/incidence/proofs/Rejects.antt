@@ -1,7 +1,8 @@
 -- What demand 3, as `Detects` states it, rules out by itself, whatever the family and the code: a report that names every item, one that
 -- names none, and one that always says "beyond". What request 2.2, as `Tallies` states it, tells the other way round. And how the two
 -- statements pass to what is equal to them or asks for more.
-use Rattle.fips197.proofs.Kit.{_≡_, refl, _∙_, Bool, true, false, ℕ, _+_, _-_, _*_, _/_, _≤_, _<_, arith, ltb, ltb-true, ltb-false}
+use Rattle.fips197.proofs.Kit.{_≡_, refl, _∙_, Bool, true, false, ℕ, _+_, _-_, _*_, _/_, _≤_, _<_, arith}
+use native.Mathlib.Nat.{lt-of-not-le}
 use Rattle.incidence.specs.Count.{countUpTo}
 use Rattle.incidence.specs.Detection.{Detects}
 use Rattle.incidence.specs.Tally.{Tallies}
@@ -33,27 +34,15 @@ not-always-beyond d n C changed marked c none D =
 module _ (d n : ℕ) (C : Type 0) (changed : ℕ → Bool) (rows : ℕ) (T : Tallies d n C changed rows) where
   -- a row disagrees: some item changed
   pub tells-some : 0 < rows → 0 < countUpTo changed n
-  tells-some h = go (ltb 0 (countUpTo changed n)) refl
-    where
-      go : (b : Bool) → ltb 0 (countUpTo changed n) ≡ b → 0 < countUpTo changed n
-      go true e = ltb-true 0 (countUpTo changed n) e
-      go false e = let z : countUpTo changed n ≡ 0 = omega (arith, ltb-false 0 (countUpTo changed n) e) in absurd (omega (arith, T .none z))
+  tells-some h = lt-of-not-le (λ (l : countUpTo changed n ≤ 0). let z : countUpTo changed n ≡ 0 = omega arith in omega (arith, T .none z))
 
   -- more rows than k items give: more than k changed
   pub tells-more : (k : ℕ) → k * d + 1 < rows → k < countUpTo changed n
-  tells-more k h = go (ltb k (countUpTo changed n)) refl
-    where
-      go : (b : Bool) → ltb k (countUpTo changed n) ≡ b → k < countUpTo changed n
-      go true e = ltb-true k (countUpTo changed n) e
-      go false e = absurd (omega (arith, T .most k (ltb-false k (countUpTo changed n) e)))
+  tells-more k h = lt-of-not-le (λ (l : countUpTo changed n ≤ k). omega (arith, T .most k l))
 
   -- fewer rows than k items give: fewer than k changed
   pub tells-fewer : C → (k : ℕ) → rows < k * (d + 1) - k * (k - 1) / 2 → countUpTo changed n < k
-  tells-fewer c k h = go (ltb (countUpTo changed n) k) refl
-    where
-      go : (b : Bool) → ltb (countUpTo changed n) k ≡ b → countUpTo changed n < k
-      go true e = ltb-true (countUpTo changed n) k e
-      go false e = absurd (omega (arith, T .least c k (ltb-false (countUpTo changed n) k e)))
+  tells-fewer c k h = lt-of-not-le (λ (l : k ≤ countUpTo changed n). omega (arith, T .least c k l))
 
   -- d + 1 rows are those of one changed item, and 2 d + 1 those of two, and of no other number
   pub tells-one : C → 2 ≤ d → rows ≡ d + 1 → countUpTo changed n ≡ 1

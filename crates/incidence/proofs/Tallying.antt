@@ -1,7 +1,8 @@
 -- The counting theorem (document 02, 2.2), for any projective family and any test of its rows by which a row without a changed item agrees
 -- and, where no row cancels, every other disagrees. Item by item: a changed one adds its d + 1 rows but for those that hold an earlier changed
 -- one, which are at most as many as these, and at least one where there is one.
-use Rattle.fips197.proofs.Kit.{_≡_, refl, sym, ap, _∙_, subst, Bool, true, false, not, _&&_, _||_, and-comm, and-true, _⊎_, inl, inr, ℕ, zero, suc, _+_, _-_, _*_, _/_, _≤_, _<_, eq-or-lt-of-le, add-mul, mul-comm, arith, not-true}
+use Rattle.fips197.proofs.Kit.{_≡_, refl, sym, ap, _∙_, subst, Bool, true, false, not, _&&_, _||_, and-comm, and-true, _⊎_, inl, inr, ℕ, zero, suc, _+_, _-_, _*_, _/_, _≤_, _<_, mul-comm, arith, not-true}
+use native.Mathlib.Nat.{suc-mul, eq-zero-or-pos}
 use Rattle.incidence.specs.Count.{indicator, countUpTo}
 use Rattle.incidence.specs.Family.{Family, Projective}
 use Rattle.incidence.specs.Report.{disagreeing}
@@ -19,18 +20,7 @@ pairsOf (suc k) = pairsOf k + k
 
 pairs-twice : (k : ℕ) → 2 * pairsOf (suc k) ≡ suc k * k
 pairs-twice zero = refl
-pairs-twice (suc k) =
-    let a : suc (suc k) ≡ suc k + 1 = omega arith in
-    let b : suc k ≡ k + 1 = omega arith in
-    omega (
-      arith,
-      pairs-twice k,
-      ap (λ (x : ℕ). x * suc k) a,
-      add-mul (suc k) 1 (suc k),
-      ap (λ (x : ℕ). x * suc k) b,
-      add-mul k 1 (suc k),
-      mul-comm k (suc k),
-    )
+pairs-twice (suc k) = omega (arith, pairs-twice k, suc-mul (suc k) (suc k), suc-mul k (suc k), mul-comm k (suc k))
 
 pairs-half : (k : ℕ) → pairsOf k ≡ k * (k - 1) / 2
 pairs-half zero = refl
@@ -105,9 +95,8 @@ module _ (F : Family) (P : Projective F) (changed : ℕ → Bool) where
       next : ((k : ℕ) → k ≤ c → k * (d + 1) ≤ held m + pairsOf k) → changed (suc m) ≡ true → (k ≡ suc c) ⊎ (k ≤ c) → k * (d + 1) ≤ held (suc m) + pairsOf k
       next rest e (inr b) = omega (arith, held-more m, rest k b)
       next rest e (inl q) =
-          let s : suc c ≡ c + 1 = omega arith in
           subst (λ (x : ℕ). x * (d + 1) ≤ held (suc m) + pairsOf x) (sym q)
-          (omega (arith, ap (λ (x : ℕ). x * (d + 1)) s, add-mul c 1 (d + 1), adds-own m u e, shared-most m u, rest c (omega arith)))
+          (omega (arith, suc-mul c (d + 1), adds-own m u e, shared-most m u, rest c (omega arith)))
 
       go : ((k : ℕ) → k ≤ c → k * (d + 1) ≤ held m + pairsOf k) → (b : Bool) → changed (suc m) ≡ b → k * (d + 1) ≤ held (suc m) + pairsOf k
       go rest true e = next rest e (last-or k c (omega (arith, ap indicator e)))
@@ -121,16 +110,16 @@ module _ (F : Family) (P : Projective F) (changed : ℕ → Bool) where
       c : ℕ
       c = countUpTo changed m
 
-      less : changed (suc m) ≡ true → k * d ≡ (k - 1) * d + 1 * d
-      less e = let q : k ≡ k - 1 + 1 = omega (arith, ap indicator e) in ap (λ (x : ℕ). x * d) q ∙ add-mul (k - 1) 1 d
+      less : changed (suc m) ≡ true → k * d ≡ (k - 1) * d + d
+      less e = let q : k ≡ suc (k - 1) = omega (arith, ap indicator e) in ap (λ (x : ℕ). x * d) q ∙ suc-mul (k - 1) d
 
-      next : ((k : ℕ) → c ≤ k → held m ≤ k * d + 1) → changed (suc m) ≡ true → (0 ≡ c) ⊎ (0 < c) → held (suc m) ≤ k * d + 1
-      next rest e (inl z) = omega (arith, less e, adds-own m u e, held-none m (sym z))
+      next : ((k : ℕ) → c ≤ k → held m ≤ k * d + 1) → changed (suc m) ≡ true → (c ≡ 0) ⊎ (0 < c) → held (suc m) ≤ k * d + 1
+      next rest e (inl z) = omega (arith, less e, adds-own m u e, held-none m z)
       next rest e (inr p) =
           omega (arith, less e, adds-own m u e, shared-some m u p, rest (k - 1) (omega (arith, ap indicator e)))
 
       go : ((k : ℕ) → c ≤ k → held m ≤ k * d + 1) → (b : Bool) → changed (suc m) ≡ b → held (suc m) ≤ k * d + 1
-      go rest true e = let l : 0 ≤ c = omega arith in next rest e (eq-or-lt-of-le l)
+      go rest true e = next rest e (eq-zero-or-pos c)
       go rest false e = omega (arith, adds-none m e, rest k (omega (arith, ap indicator e)))
 
 -- ---- the theorem

@@ -1,5 +1,5 @@
--- Demand 3 and request 2.2 of what is printed: where the first message is tagged and the second is a message of as many items with the same number, the lines are those of a report
--- that is not refused (scheme, Guarantees), of which both hold (scheme, Claiming).
+-- Demand 3 and request 2.2 of what is printed: where the first message is tagged and the second is a message of as many items with the same
+-- number, the lines are those of a report that is not refused (scheme, Guarantees), of which both hold (scheme, Claiming).
 use Rattle.fips197.proofs.Kit.{_≡_, refl, sym, ap, _∙_, Bool, true, List, ℕ, _≤_, arith, drop}
 use Rattle.blocks.specs.Block.{if_then_else_, Bytes, zeros}
 use Rattle.blocks.proofs.Xor.{take-bytes, drop-bytes}
