@@ -226,9 +226,10 @@ static unsigned long recoded;                               /* done: the code of
 static unsigned long unseen[2];                             /* added and withdrawn under version 3 with a code of zero: no row shows them */
 
 /* What was seen of each size. The first four are the calls that were done. */
-enum { NO = 4, YES, AFRESH, CANCELS, NO_CARD, FULL, ONE_ABOVE, FAR_ABOVE, FAR_CODE, OF_SIZE };
+enum { NO = 4, YES, AFRESH, CANCELS, OTHERS_NAMED, RELOADED, NO_CARD, FULL, ONE_ABOVE, FAR_ABOVE, FAR_CODE, OF_SIZE };
 static const char *const of_size_names[OF_SIZE] = {"tagged", "verified", "reported", "replaced", "no", "yes", "replaced as tagged afresh",
-                                                   "a row cancels", "count 0", "full", "one card too many", "far too many", "code far above"};
+                                                   "a row cancels", "others named too", "reloaded beyond the limit", "count 0", "full",
+                                                   "one card too many", "far too many", "code far above"};
 static unsigned long of_size[SIZES][OF_SIZE];
 
 /* Reports in which no row cancels, by size and by how many cards changed; the last number for more than one above the limit. */
@@ -399,6 +400,53 @@ static void check_row_count(long rows, unsigned changes, int premise)
         differs("the rows where so many changed", (unsigned long)rows, changes);
 }
 
+/* Whether a row holds a changed card. */
+static int holds_changed(unsigned row)
+{
+    for (unsigned j = 1; j <= cards.count; j++)
+        if (differ[j] && cards.family->on[row][j])
+            return 1;
+    return 0;
+}
+
+/* Document 02, 2.13, against the unaltered sheet: each row through a named card holds a changed one; where no row cancels, every card of which
+ * that is true is named. */
+static void check_list(int premise)
+{
+    static uint8_t covered[MOST_CARDS + 1];
+    unsigned others = 0;
+    memset(covered, 1, sizeof covered);
+    for (unsigned row = 1; row <= cards.family->rows; row++)
+        if (!holds_changed(row))
+            for (unsigned j = 1; j <= cards.count; j++)
+                covered[j] &= !cards.family->on[row][j];
+    for (unsigned j = 1; j <= cards.count; j++) {
+        int named = out.bytes[j - 1];
+        if (premise ? named != covered[j] : named && !covered[j])
+            differs("a card named, and whether each row through it holds a changed one", (unsigned)named, covered[j]);
+        others += named && !differ[j];
+    }
+    of(cards.family)[OTHERS_NAMED] += premise && others != 0;
+}
+
+/* Each named card gets the bytes that were tagged: where no row cancelled, the next report is intact. The shelf may be too long for one. */
+static void check_reload(void)
+{
+    uint8_t marks[MOST_CARDS];
+    for (unsigned j = 1; j <= cards.count; j++)
+        if (out.bytes[j - 1]) {
+            cards.len[j] = tagged.len[j];
+            memcpy(cards.card[j], tagged.card[j], tagged.len[j]);
+        }
+    shelf.len = write_shelf(&cards, shelf.bytes);
+    if (shelf.len > 65536)
+        return;
+    uint64_t r = gtm_report(keys.bytes, keys.len, shelf.bytes, shelf.len, sheet.bytes, sheet.len, marks, cards.count);
+    if (r != 0)
+        differs("the report after a reload", gtm_number(r), gtm_answer(r));
+    of(cards.family)[RELOADED]++;
+}
+
 /* Demand 3: a report against the unaltered sheet names no unchanged card while at most d changed; and where no row cancels, it names every
  * changed card and gives the answer that goes with their number. */
 static void check_detection(struct result r)
@@ -419,12 +467,15 @@ static void check_detection(struct result r)
         differs("the answer where so many changed", (unsigned)r.answer, changes);
     if (cards.family < families + PLANES)
         check_row_count(r.rows, changes, premise);
+    check_list(premise);
     premises[sheet_version][premise ? 0 : 1]++;
     if (premise)
         changed[cards.family - families][changes < limit + 2 ? changes : limit + 2]++;
     else
         of(cards.family)[CANCELS] += changes <= limit;
     count_turned();
+    if (premise && changes > limit)
+        check_reload();
 }
 
 /* ---- The listed cases ---- */
@@ -533,12 +584,15 @@ static void list_counts(const struct family *f)
     }
 }
 
-/* Up to two cards more than the limit changed, or all; as many as the limit, so that a row cancels; and one that no row shows. */
+/* Up to two cards more than the limit changed, two and a half times as many as the limit, all but one, or all; as many as the limit, so that
+ * a row cancels; and one that no row shows. */
 static void list_changed(const struct family *f, unsigned version)
 {
+    const unsigned many[] = {5 * f->limit / 2, f->cards - 1, f->cards};
     for (unsigned n = 0; n <= f->limit + 2; n++)
         list((struct plan){REPORT, SHELF_VERSIONS, version, CHANGED, n, .family = f});
-    list((struct plan){REPORT, SHELF_VERSIONS, version, CHANGED, f->cards, .family = f});
+    for (unsigned i = 0; i < COUNT(many); i++)
+        list((struct plan){REPORT, SHELF_VERSIONS, version, CHANGED, many[i], .family = f});
     list((struct plan){REPORT, SHELF_VERSIONS, version, CANCELLED, f->limit, .family = f});
     for (unsigned n = 0; n < 2; n++) {
         list((struct plan){VERIFY, SHELF_VERSIONS, version, CHANGED, n, .family = f});

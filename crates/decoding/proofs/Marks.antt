@@ -3,11 +3,11 @@
 use Rattle.fips197.proofs.Kit.{_≡_, refl, sym, ap, ap₂, _∙_, subst, Bool, true, false, not, _&&_, _||_, List, [], _∷_, _++_, ℕ, zero, suc, _+_, _-_, _≤_, _<_, arith, eqb, length, getD, set, take, drop, length-set, take-append-drop, take-suc, drop-drop, getD-set-same, getD-set-other, drop-set-lt, eqb-true, eqb-false, ne-eqb}
 use Rattle.blocks.specs.Block.{if_then_else_, zeros}
 use Rattle.incidence.specs.Count.{indicator, countUpTo, anyUpTo}
-use Rattle.incidence.specs.Family.{Family, Lawful}
-use Rattle.incidence.specs.Report.{cleared, named, numberNamed, disagreeing, holdsNamed, someUnexplained, answerBy, answer}
+use Rattle.incidence.specs.Family.{Family, holdsOne, Lawful}
+use Rattle.incidence.specs.Report.{cleared, named, numberNamed, disagreeing, someUnexplained, answerBy, answer}
 use Rattle.incidence.proofs.Counting.{count-ext, any-ext}
 use Rattle.incidence.proofs.Differences.{none-named}
-use Rattle.decoding.specs.Decoding.{marksOf, markIn, Marked, Cleared, isMarked, holdsMarked, unexplainedIn}
+use Rattle.decoding.specs.Decoding.{marksOf, markIn, Marked, Cleared, isMarked, unexplainedIn}
 
 -- ---- one mark is written
 
@@ -132,8 +132,7 @@ module _ (F : Family) (agrees : ℕ → Bool) {n : ℕ} {a b c : List ℕ} (all 
   unfolding numberNamed
   count-is = count-ext (isMarked c) (named F agrees) n marked-named
 
-  holds-is : (i : ℕ) → holdsMarked F c n i ≡ holdsNamed F agrees n i
-  unfolding holdsMarked holdsNamed
+  holds-is : (i : ℕ) → holdsOne F (isMarked c) n i ≡ holdsOne F (named F agrees) n i
   holds-is i = any-ext _ _ n (λ j l u. ap (λ (t : Bool). F .on i j && t) (marked-named j l u))
 
   unexplained-is : anyUpTo (unexplainedIn F agrees c n) (F .rows) ≡ someUnexplained F agrees n (F .rows)

@@ -1,13 +1,14 @@
 -- What the loops know, of the marks counted, of a row's items and of the rows compared: at first, after one turn more, and at the end.
 use Rattle.fips197.proofs.Kit.{_≡_, refl, sym, ap, ap₂, _∙_, subst, Bool, true, false, not, _&&_, _||_, true≢false, List, _⊎_, inl, inr, ℕ, suc, _+_, _-_, _≤_, _<_, arith, add-one, eqb, leb, length, getD, eqb-true, eq-eqb, ne-eqb, leb-true, le-leb}
 use Rattle.incidence.specs.Count.{indicator, countUpTo, anyUpTo}
-use Rattle.incidence.specs.Family.{Family, itemsOf}
+use Rattle.incidence.specs.Family.{Family, itemsOf, holdsOne}
 use Rattle.incidence.specs.Report.{cleared, disagreeing}
-use Rattle.incidence.proofs.Booleans.{and-left, and-right, and-both, or-cases, not-both}
+use Rattle.incidence.proofs.Booleans.{and-left, and-right, or-cases, not-both}
 use Rattle.incidence.proofs.Counting.{count-most, count-before, any-some, any-none}
+use Rattle.incidence.proofs.Covering.{holds-item, holds-no-item}
 use Rattle.incidence.proofs.Walking.{cleared-step, counted-step}
 use Rattle.incidence.proofs.Listing.{Member, itemsOf-at, listed-rank, listed-length}
-use Rattle.decoding.specs.Decoding.{markIn, Cleared, isMarked, holdsMarked}
+use Rattle.decoding.specs.Decoding.{markIn, Cleared, isMarked}
 use Rattle.decoding.proofs.Marks.{cleared-as, cleared-none, cleared-both}
 
 -- ---- one number more
@@ -112,20 +113,16 @@ bare-next l marks n k x B e f j a b p = go (or-cases (picked l k j) (eqb x j) (s
         ap (λ (t : Bool). t && isMarked marks j) (sym (le-leb j n b)) ∙ subst (λ (y : ℕ). (leb y n && isMarked marks y) ≡ false) z f
 
 pub bare-all : (F : Family) (row n : ℕ) (marks : List ℕ) (k : ℕ) → Bare (itemsOf F row) marks n k → k ≡ length (itemsOf F row) → n ≤ F .items
-    → holdsMarked F marks n row ≡ false
-unfolding holdsMarked
+    → holdsOne F (isMarked marks) n row ≡ false
 bare-all F row n marks k B h b =
-    any-none (λ j. F .on row j && isMarked marks j) n
-    (λ j l u e. not-both (isMarked marks j) (and-right (F .on row j) (isMarked marks j) e)
-    (B j l u (picked-all F row k j h l (omega arith) ∙ and-left (F .on row j) (isMarked marks j) e)))
+    holds-no-item F (isMarked marks) n row (λ j l u m o. not-both (isMarked marks j) m (B j l u (picked-all F row k j h l (omega arith) ∙ o)))
 
 pub holds-this : (F : Family) (row n : ℕ) (marks : List ℕ) (k x : ℕ) → x ≡ getD (itemsOf F row) k 0 → k < length (itemsOf F row)
-    → (leb x n && isMarked marks x) ≡ true → holdsMarked F marks n row ≡ true
-unfolding holdsMarked
+    → (leb x n && isMarked marks x) ≡ true → holdsOne F (isMarked marks) n row ≡ true
 holds-this F row n marks k x e h t =
     let m = item-is F row k x e h in
-    any-some (λ j. F .on row j && isMarked marks j) n x (m .low) (leb-true x n (and-left (leb x n) (isMarked marks x) t))
-    (and-both (m .passes) (and-right (leb x n) (isMarked marks x) t))
+    holds-item F (isMarked marks) n row x (m .low) (leb-true x n (and-left (leb x n) (isMarked marks x) t)) (m .passes)
+    (and-right (leb x n) (isMarked marks x) t)
 
 -- ---- the rows are compared
 

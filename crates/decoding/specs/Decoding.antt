@@ -7,8 +7,8 @@ use Prim.Native.Nat.{ℕ, zero, suc, _-_, _≤_}
 use lib.Dec.{eqb}
 use lib.ListN.{length, getD, drop}
 use Rattle.blocks.specs.Block.{if_then_else_, zeros, same}
-use Rattle.incidence.specs.Count.{indicator, anyUpTo}
-use Rattle.incidence.specs.Family.{Family}
+use Rattle.incidence.specs.Count.{indicator}
+use Rattle.incidence.specs.Family.{Family, holdsOne}
 use Rattle.incidence.specs.Sum.{expanded}
 use Rattle.sums.specs.Adding.{sumIn}
 
@@ -45,10 +45,6 @@ Cleared p n before after = Marked n (λ j. if p j then 0 else markIn before j) b
 unfoldable pub isMarked : List ℕ → ℕ → Bool
 isMarked marks j = not (eqb (markIn marks j) 0)
 
--- whether row i holds one of the items 1 to n that is marked
-unfoldable pub holdsMarked : Family → List ℕ → ℕ → ℕ → Bool
-holdsMarked F marks n i = anyUpTo (λ j. F .on i j && isMarked marks j) n
-
--- whether row i disagrees and holds no such item, so that not "every disagreeing row holds a named card"
+-- whether row i disagrees and holds none of the items 1 to n that is marked, so that not "every disagreeing row holds a named card"
 unfoldable pub unexplainedIn : Family → (ℕ → Bool) → List ℕ → ℕ → ℕ → Bool
-unexplainedIn F agrees marks n i = not (agrees i) && not (holdsMarked F marks n i)
+unexplainedIn F agrees marks n i = not (agrees i) && not (holdsOne F (isMarked marks) n i)

@@ -10,10 +10,11 @@ ghost use lib.Dec.{eqb, leb};
 ghost use lib.ListN.{length, drop};
 ghost use Rattle.incidence.specs.Count.{indicator, countUpTo, anyUpTo};
 ghost use Rattle.blocks.specs.Block.{zeros};
+ghost use Rattle.incidence.specs.Family.{holdsOne};
 ghost use Rattle.incidence.specs.Report.{cleared, named, numberNamed, disagreeing, answerBy, answer};
 ghost use Rattle.incidence.specs.declared.Answer.the-variants.{Intact};
 ghost use Rattle.sizes.specs.Sizes.{known, familyOf};
-ghost use Rattle.decoding.specs.Decoding.{agreesIn, agreesFrom, marksOf, Marked, Cleared, isMarked, holdsMarked, unexplainedIn};
+ghost use Rattle.decoding.specs.Decoding.{agreesIn, agreesFrom, marksOf, Marked, Cleared, isMarked, unexplainedIn};
 
 // The most marks that a report writes: those of the largest size.
 pub const MARKS_MOST: usize = 273;
@@ -127,7 +128,7 @@ fn is_named(marks: &[u8], n: usize, j: usize) -> bool
 // Whether a row holds one of the first n items that is marked, by a walk over its items.
 fn holds_named(code: u64, n: usize, row: usize, marks: &[u8]) -> bool
     requires { ⌜ (n ≤ familyOf code .items) × (n ≤ length (now marks)) ⌝ }
-    ensures { λ r. ⌜ r ≡ holdsMarked (familyOf code) (now (marks .entry)) n row ⌝ }
+    ensures { λ r. ⌜ r ≡ holdsOne (familyOf code) (isMarked (now (marks .entry))) n row ⌝ }
 {
     let mut items = [0usize; sizes::MOST];
     let held = sizes::items_of(code, row, &mut items);

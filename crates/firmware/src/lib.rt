@@ -10,7 +10,7 @@ ghost use Rattle.incidence.specs.Report.{meaning};
 ghost use Rattle.incidence.specs.declared.Answer.{Answer};
 ghost use Rattle.checks.specs.Refused.{tagRefusal, verifyRefusal, reportRefusal, replaceRefusal};
 ghost use Rattle.scheme.specs.Calls.{tagWrites, verifyYes, reportWrites, reportAnswer, reportNamed, reportRows, replaceWrites};
-ghost use Rattle.scheme.specs.Claim.{Claim, RowClaim};
+ghost use Rattle.scheme.specs.Claim.{Claim, RowClaim, NameClaim};
 ghost use Rattle.firmware.specs.Packed.{packed, packedYes, packedReport, numberIn, answerIn, namedIn, rowsIn, ReadsReport};
 
 // A refusal as one number.
@@ -80,6 +80,7 @@ pub extern "C" fn gtm_report(keys: &[u8], message: &[u8], tagfile: &[u8], marks:
     ensures read { λ w. ⌜ (numberIn w ≡ 0 → ReadsReport w (reportAnswer (now (keys .entry)) (now (message .entry)) (now (tagfile .entry)) (now (marks .entry))) (reportNamed (now (keys .entry)) (now (message .entry)) (now (tagfile .entry)) (now (marks .entry))) (reportRows (now (keys .entry)) (now (message .entry)) (now (tagfile .entry)) (now (marks .entry)))) ⌝ }
     ensures detection { λ w. ⌜ (numberIn w ≡ 0 → (said : Answer) → meaning said .ordinal ≡ answerIn w → Claim (now (keys .entry)) (now (message .entry)) (now (tagfile .entry)) (now (marks .exit)) (namedIn w) said) ⌝ }
     ensures counting { λ w. ⌜ (numberIn w ≡ 0 → RowClaim (now (keys .entry)) (now (message .entry)) (now (tagfile .entry)) (rowsIn w)) ⌝ }
+    ensures naming { λ w. ⌜ (numberIn w ≡ 0 → NameClaim (now (keys .entry)) (now (message .entry)) (now (tagfile .entry)) (now (marks .exit))) ⌝ }
 {
     pack_report(scheme::report(keys, message, tagfile, marks))
 }

@@ -39,6 +39,20 @@ pub fn usage(fd: i32) {
         b"gtm sizes                                 each SIZE: the most cards, the tags, the limit and the sheet's bytes\n",
     );
     io::write_all(fd, b"gtm help                                  this text\n");
+    usage_of_reports(fd);
+}
+
+// What a report's cards and rows mean.
+fn usage_of_reports(fd: i32) {
+    io::write_all(
+        fd,
+        b"Cards named: exactly those through which every row holds an altered card, so all altered ones and, above the limit,\n",
+    );
+    io::write_all(
+        fd,
+        b"perhaps others, unless changes cancel out. Reload them all from a good copy: with the same exception, the next report\n",
+    );
+    io::write_all(fd, b"says intact.\n");
     io::write_all(
         fd,
         b"Rows that disagree, at SIZE 1 to 4: limit + 1 for one altered card, 2 x limit + 1 for two, at most k x limit + 1\n",

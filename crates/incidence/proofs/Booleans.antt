@@ -46,6 +46,16 @@ pub not-passed : (b : Bool) → (b ≡ true → ⊥) → b ≡ false
 not-passed true h = absurd (h refl)
 not-passed false h = refl
 
+-- and one that is not failed is passed
+pub not-failed : (b : Bool) → (b ≡ false → ⊥) → b ≡ true
+not-failed true h = refl
+not-failed false h = absurd (h refl)
+
+-- two tests of which each is passed where the other is are equal
+pub both-ways : (a b : Bool) → (a ≡ true → b ≡ true) → (b ≡ true → a ≡ true) → a ≡ b
+both-ways true b f g = sym (f refl)
+both-ways false b f g = sym (not-passed b (λ t. not-both false (g t) refl))
+
 pub beq-eq : (a b : Bool) → Bool·beq a b ≡ true → a ≡ b
 beq-eq true true h = refl
 beq-eq true false h = sym h

@@ -1,6 +1,6 @@
--- The laws of `count` and `any`.
+-- The laws of `count`, `any` and `all`.
 use Rattle.fips197.proofs.Kit.{_≡_, refl, sym, ap, ap₂, _∙_, subst, Bool, true, false, not, _&&_, _||_, true≢false, _⊎_, inl, inr, ℕ, zero, suc, _+_, _-_, _≤_, _<_, arith, ltb, leb, ltb-true, ltb-false, leb-true, le-leb}
-use Rattle.incidence.specs.Count.{indicator, countUpTo, anyUpTo, inside}
+use Rattle.incidence.specs.Count.{indicator, countUpTo, anyUpTo, allUpTo, inside}
 use Rattle.incidence.proofs.Booleans.{and-left, and-right, and-both, or-cases, or-first, or-second, not-passed}
 
 -- what is at most n + 1 is n + 1 or at most n
@@ -152,6 +152,20 @@ pub any-ext : (p q : ℕ → Bool) (n : ℕ) → ((i : ℕ) → 1 ≤ i → i �
 any-ext p q zero h = refl
 any-ext p q (suc n) h =
     ap₂ _||_ (any-ext p q n (λ i l u. h i l (omega arith))) (h (suc n) (omega arith) (omega arith))
+
+-- ---- whether each passes
+
+pub all-each : (p : ℕ → Bool) (n : ℕ) → ((i : ℕ) → 1 ≤ i → i ≤ n → p i ≡ true) → allUpTo p n ≡ true
+all-each p zero h = refl
+all-each p (suc n) h = and-both (all-each p n (λ i l u. h i l (omega arith))) (h (suc n) (omega arith) (omega arith))
+
+pub all-at : (p : ℕ → Bool) (n : ℕ) → allUpTo p n ≡ true → (i : ℕ) → 1 ≤ i → i ≤ n → p i ≡ true
+all-at p zero h i l u = absurd (omega arith)
+all-at p (suc n) h i l u = go (λ b. all-at p n (and-left (allUpTo p n) _ h) i l b) (last-or i n u)
+  where
+    go : (i ≤ n → p i ≡ true) → (i ≡ suc n) ⊎ (i ≤ n) → p i ≡ true
+    go rest (inl s) = subst (λ (x : ℕ). p x ≡ true) (sym s) (and-right (allUpTo p n) _ h)
+    go rest (inr b) = rest b
 
 -- ---- a test that is computed at each of the numbers 0 to n − 1
 

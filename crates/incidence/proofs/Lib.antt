@@ -6,6 +6,7 @@ pub mod Parity
 pub mod Pigeonhole
 pub mod Sums
 pub mod Reports
+pub mod Covering
 pub mod Detection
 pub mod Rejects
 pub mod Rowwise

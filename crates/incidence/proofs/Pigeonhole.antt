@@ -1,16 +1,13 @@
 -- 000, the proof of Proposition 2: where each item is on more than d rows and two different ones share at most one, the matrix is d-disjunct.
 -- For the items of a set take at most as many rows from another item as there are of them.
 use Rattle.fips197.proofs.Kit.{_≡_, refl, ap, Bool, true, false, not, _&&_, _||_, ℕ, zero, suc, _≤_, _<_, arith, not-true}
-use Rattle.incidence.specs.Count.{indicator, countUpTo, anyUpTo}
-use Rattle.incidence.specs.Family.{Family, Disjunct}
+use Rattle.incidence.specs.Count.{indicator, countUpTo}
+use Rattle.incidence.specs.Family.{Family, holdsOne, Disjunct}
 use Rattle.incidence.proofs.Booleans.{and-left, and-right, and-both, and-or, not-both, not-passed}
-use Rattle.incidence.proofs.Counting.{Found, found, count-ext, count-mono, count-none, count-split, count-both, any-some}
+use Rattle.incidence.proofs.Counting.{Found, found, count-ext, count-mono, count-none, count-split, count-both}
+use Rattle.incidence.proofs.Covering.{holds-item}
 
 module _ (F : Family) (set : ℕ → Bool) where
-  -- whether row i holds one of the items 1 to n of the set
-  abbrev pub holdsOne : ℕ → ℕ → Bool
-  holdsOne n i = anyUpTo (λ j. F .on i j && set j) n
-
   module _ (p : ℕ → Bool) where
     -- the last item takes at most one of the rows that pass p, and none if it is not of the set
     takes : (n : ℕ) → (set (suc n) ≡ true → countUpTo (λ i. p i && F .on i (suc n)) (F .rows) ≤ 1)
@@ -35,15 +32,15 @@ module _ (F : Family) (set : ℕ → Bool) where
 
     -- so all of them at most as many as they are
     pub takes-few : (n : ℕ) → ((k : ℕ) → 1 ≤ k → k ≤ n → set k ≡ true → countUpTo (λ i. p i && F .on i k) (F .rows) ≤ 1)
-        → countUpTo (λ i. p i && holdsOne n i) (F .rows) ≤ countUpTo set n
+        → countUpTo (λ i. p i && holdsOne F set n i) (F .rows) ≤ countUpTo set n
     takes-few zero h =
         omega (arith, count-none (λ i. p i && false) (F .rows) (λ i l u t. not-both false (and-right (p i) false t) refl))
     takes-few (suc n) h =
         omega (
           arith,
-          count-ext (λ i. p i && holdsOne (suc n) i) (λ i. (p i && holdsOne n i) || (p i && (F .on i (suc n) && set (suc n)))) (F .rows)
-              (λ i l u. and-or (p i) (holdsOne n i) (F .on i (suc n) && set (suc n))),
-          count-both (λ i. p i && holdsOne n i) (λ i. p i && (F .on i (suc n) && set (suc n))) (F .rows),
+          count-ext (λ i. p i && holdsOne F set (suc n) i) (λ i. (p i && holdsOne F set n i) || (p i && (F .on i (suc n) && set (suc n)))) (F .rows)
+              (λ i l u. and-or (p i) (holdsOne F set n i) (F .on i (suc n) && set (suc n))),
+          count-both (λ i. p i && holdsOne F set n i) (λ i. p i && (F .on i (suc n) && set (suc n))) (F .rows),
           takes n (h (suc n) (omega arith) (omega arith)),
           takes-few n (λ k l u. h k l (omega arith)),
         )
@@ -68,6 +65,5 @@ pigeonhole F d many few set small j l u out =
       low = f .low;
       high = f .high;
       holds = and-left (F .on (f .at) j) _ (f .passes);
-      spares = λ k a b s.
-          not-passed (F .on (f .at) k) (λ o. not-both (holdsOne F set (F .items) (f .at)) (any-some (λ m. F .on (f .at) m && set m) (F .items) k a b (and-both o s)) none);
+      spares = λ k a b s. not-passed (F .on (f .at) k) (λ o. not-both (holdsOne F set (F .items) (f .at)) (holds-item F set (F .items) (f .at) k a b o s) none);
     }

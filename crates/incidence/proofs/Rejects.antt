@@ -1,15 +1,18 @@
 -- What demand 3, as `Detects` states it, rules out by itself, whatever the family and the code: a report that names every item, one that
--- names none, and one that always says "beyond". What request 2.2, as `Tallies` states it, tells the other way round. And how the two
--- statements pass to what is equal to them or asks for more.
-use Rattle.fips197.proofs.Kit.{_≡_, refl, _∙_, Bool, true, false, ℕ, _+_, _-_, _*_, _/_, _≤_, _<_, arith}
+-- names none, and one that always says "beyond". What request 2.2, as `Tallies` states it, tells the other way round, and what request 2.13,
+-- as `NamesCovered` states it, rules out. And how the three statements pass to what is equal to them or asks for more.
+use Rattle.fips197.proofs.Kit.{_≡_, refl, sym, _∙_, Bool, true, false, ℕ, _+_, _-_, _*_, _/_, _≤_, _<_, arith}
 use native.Mathlib.Nat.{lt-of-not-le}
 use Rattle.incidence.specs.Count.{countUpTo}
+use Rattle.incidence.specs.Family.{Family, holdsOne}
 use Rattle.incidence.specs.Detection.{Detects}
 use Rattle.incidence.specs.Tally.{Tallies}
+use Rattle.incidence.specs.Naming.{NamesCovered}
 use Rattle.incidence.specs.declared.Answer.{Answer}
 use Rattle.incidence.specs.declared.Answer.the-variants.{Intact, Beyond}
 use Rattle.incidence.proofs.Booleans.{not-both}
 use Rattle.incidence.proofs.Counting.{Found, found}
+use Rattle.incidence.proofs.Covering.{covered-row, own-covered}
 
 module _ (d n : ℕ) (C : Type 0) (changed : ℕ → Bool) (said : Answer) where
   -- an unchanged item, and no more changes than the limit
@@ -51,6 +54,17 @@ module _ (d n : ℕ) (C : Type 0) (changed : ℕ → Bool) (rows : ℕ) (T : Tal
   pub tells-two : C → 2 ≤ d → rows ≡ 2 * d + 1 → countUpTo changed n ≡ 2
   tells-two c h e = omega (arith, tells-more 1 (omega arith), tells-fewer c 3 (omega arith))
 
+-- ---- what request 2.13, as `NamesCovered` states it, rules out
+
+module _ (F : Family) (n : ℕ) (C : Type 0) (changed marked : ℕ → Bool) (N : NamesCovered F n C changed marked) where
+  -- a changed item that is not named, however many changed
+  pub none-left-out : C → (j : ℕ) → 1 ≤ j → j ≤ n → changed j ≡ true → marked j ≡ false → ⊥
+  none-left-out c j l u e out = not-both (marked j) (N .exact c j l u ∙ own-covered F changed n j l u e) out
+
+  -- an item that is named while some row through it holds no changed one, whatever the other rows hold
+  pub not-by-some-row : (i j : ℕ) → 1 ≤ i → i ≤ F .rows → 1 ≤ j → j ≤ n → F .on i j ≡ true → holdsOne F changed n i ≡ false → marked j ≡ true → ⊥
+  not-by-some-row i j a b l u o free t = not-both (holdsOne F changed n i) (covered-row F changed n j (N .within j l u t) i a b o) free
+
 -- ---- passing on
 
 module _ (d n : ℕ) (C E : Type 0) (changed marked other : ℕ → Bool) (said : Answer) where
@@ -68,3 +82,8 @@ module _ (d n : ℕ) (C E : Type 0) (changed marked other : ℕ → Bool) (said 
 -- the same of request 2.2
 pub tallies-as : (d n : ℕ) (C E : Type 0) (changed : ℕ → Bool) (rows : ℕ) → (E → C) → Tallies d n C changed rows → Tallies d n E changed rows
 tallies-as d n C E changed rows f T = record { none = T .none; one = λ x. T .one (f x); two = λ x. T .two (f x); least = λ x. T .least (f x); most = T .most }
+
+-- and of request 2.13
+pub names-covered-as : (F : Family) (n : ℕ) (C E : Type 0) (changed marked other : ℕ → Bool) → (E → C) → ((j : ℕ) → 1 ≤ j → j ≤ n → other j ≡ marked j)
+    → NamesCovered F n C changed marked → NamesCovered F n E changed other
+names-covered-as F n C E changed marked other f same N = record { exact = λ x j l u. same j l u ∙ N .exact (f x) j l u; within = λ j l u t. N .within j l u (sym (same j l u) ∙ t) }

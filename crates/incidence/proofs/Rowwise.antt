@@ -1,7 +1,7 @@
 -- A report goes by the tests of the family's rows alone: tests that are equal there give the same report.
 use Rattle.fips197.proofs.Kit.{_≡_, ap, ap₂, Bool, not, _&&_, ℕ, _≤_}
 use Rattle.incidence.specs.Family.{Family}
-use Rattle.incidence.specs.Report.{cleared, named, numberNamed, disagreeing, holdsNamed, someUnexplained, answer}
+use Rattle.incidence.specs.Report.{cleared, named, numberNamed, disagreeing, someUnexplained, answer}
 use Rattle.incidence.proofs.Counting.{count-ext, any-ext}
 
 module _ (F : Family) (a b : ℕ → Bool) (same : (i : ℕ) → 1 ≤ i → i ≤ F .rows → a i ≡ b i) where
@@ -18,7 +18,7 @@ module _ (F : Family) (a b : ℕ → Bool) (same : (i : ℕ) → 1 ≤ i → i �
   disagreeing-ext = count-ext (λ r. not (a r)) (λ r. not (b r)) (F .rows) (λ i l u. ap not (same i l u))
 
   pub unexplained-ext : (n : ℕ) → someUnexplained F a n (F .rows) ≡ someUnexplained F b n (F .rows)
-  unfolding someUnexplained holdsNamed
+  unfolding someUnexplained
   unexplained-ext n =
       any-ext _ _ (F .rows) (λ i l u. ap₂ (λ (s t : Bool). not s && not t) (same i l u)
       (any-ext (λ j. F .on i j && named F a j) (λ j. F .on i j && named F b j) n (λ j p q. ap (λ (t : Bool). F .on i j && t) (named-ext j))))

@@ -4,13 +4,14 @@
 use Rattle.fips197.proofs.Kit.{_≡_, refl, sym, ap, _∙_, subst, Bool, true, false, not, _&&_, _||_, and-comm, and-true, _⊎_, inl, inr, ℕ, zero, suc, _+_, _-_, _*_, _/_, _≤_, _<_, mul-comm, arith, not-true}
 use native.Mathlib.Nat.{suc-mul, eq-zero-or-pos}
 use Rattle.incidence.specs.Count.{indicator, countUpTo}
-use Rattle.incidence.specs.Family.{Family, Projective}
+use Rattle.incidence.specs.Family.{Family, holdsOne, Projective}
 use Rattle.incidence.specs.Report.{disagreeing}
 use Rattle.incidence.specs.Detection.{QuietRowsAgree, ChangedRowsDisagree}
 use Rattle.incidence.specs.Tally.{Tallies}
-use Rattle.incidence.proofs.Booleans.{and-left, and-right, and-both, and-false-r, or-false-r, or-first, not-both, not-passed}
-use Rattle.incidence.proofs.Counting.{Found, last-or, found, any-found, any-some, count-ext, count-mono, count-none, count-some, count-both}
-use Rattle.incidence.proofs.Pigeonhole.{holdsOne, takes-few}
+use Rattle.incidence.proofs.Booleans.{and-left, and-right, and-both, and-false-r, or-false-r, or-first, not-both}
+use Rattle.incidence.proofs.Counting.{Found, last-or, found, count-ext, count-mono, count-none, count-both}
+use Rattle.incidence.proofs.Covering.{holds-item, holds-none, holds-changed}
+use Rattle.incidence.proofs.Pigeonhole.{takes-few}
 
 -- ---- how many pairs k items have
 
@@ -40,11 +41,7 @@ module _ (F : Family) (P : Projective F) (changed : ℕ → Bool) where
   shared m = countUpTo (λ i. F .on i (suc m) && holdsOne F changed m i) (F .rows)
 
   held-none : (m : ℕ) → countUpTo changed m ≡ 0 → held m ≡ 0
-  held-none m z =
-      count-none (holdsOne F changed m) (F .rows) (λ i l u t.
-      let f : Found (λ j. F .on i j && changed j) m = any-found (λ j. F .on i j && changed j) m t in
-      let some : 0 < countUpTo changed m = count-some changed m (f .at) (f .low) (f .high) (and-right (F .on i (f .at)) _ (f .passes)) in
-      omega arith)
+  held-none m z = count-none (holdsOne F changed m) (F .rows) (λ i l u t. not-both (holdsOne F changed m i) t (holds-none F changed m i z))
 
   held-more : (m : ℕ) → held m ≤ held (suc m)
   held-more m = count-mono (holdsOne F changed m) (holdsOne F changed (suc m)) (F .rows) (λ i l u. or-first _)
@@ -81,7 +78,7 @@ module _ (F : Family) (P : Projective F) (changed : ℕ → Bool) where
         arith,
         P .meet (suc m) (f .at) (omega arith) u (f .low) (omega arith) (λ (e : f .at ≡ suc m). omega arith),
         count-mono (λ i. F .on i (suc m) && F .on i (f .at)) (λ i. F .on i (suc m) && holdsOne F changed m i) (F .rows)
-            (λ i a b t. and-both (and-left (F .on i (suc m)) _ t) (any-some (λ j. F .on i j && changed j) m (f .at) (f .low) w (and-both (and-right (F .on i (suc m)) _ t) (f .passes)))),
+            (λ i a b t. and-both (and-left (F .on i (suc m)) _ t) (holds-item F changed m i (f .at) (f .low) w (and-right (F .on i (suc m)) _ t) (f .passes))),
       )
 
   -- k changed items or more are on at least k (d + 1) rows but one for each two of the k
@@ -125,20 +122,11 @@ module _ (F : Family) (P : Projective F) (changed : ℕ → Bool) where
 -- ---- the theorem
 
 module _ (F : Family) (P : Projective F) (n : ℕ) (fits : n ≤ F .items) (changed agrees : ℕ → Bool) (quiet : QuietRowsAgree F n changed agrees) where
-  -- a row that disagrees holds a changed item
-  holds-changed : (i : ℕ) → 1 ≤ i → i ≤ F .rows → not (agrees i) ≡ true → holdsOne F changed n i ≡ true
-  holds-changed i l u t = go (holdsOne F changed n i) refl
-    where
-      go : (b : Bool) → holdsOne F changed n i ≡ b → holdsOne F changed n i ≡ true
-      go true e = e
-      go false e =
-          absurd (not-both (agrees i)
-          (quiet i l u (λ j a b c. not-passed (F .on i j) (λ o. not-both _ (any-some (λ m. F .on i m && changed m) n j a b (and-both o c)) e))) (not-true (agrees i) t))
-
-  -- so no more rows disagree than hold one
+  -- no more rows disagree than hold a changed item
   no-more : disagreeing agrees (F .rows) ≤ countUpTo (holdsOne F changed n) (F .rows)
   unfolding disagreeing
-  no-more = count-mono (λ r. not (agrees r)) (holdsOne F changed n) (F .rows) holds-changed
+  no-more =
+      count-mono (λ r. not (agrees r)) (holdsOne F changed n) (F .rows) (λ i l u t. holds-changed F n changed agrees quiet i l u (not-true (agrees i) t))
 
   none : countUpTo changed n ≡ 0 → disagreeing agrees (F .rows) ≡ 0
   none h = omega (arith, no-more, held-none F P changed n h)
@@ -147,16 +135,15 @@ module _ (F : Family) (P : Projective F) (n : ℕ) (fits : n ≤ F .items) (chan
   most k h = omega (arith, no-more, held-most F P changed n fits k h)
 
   module _ (loud : ChangedRowsDisagree F n changed agrees) where
-    -- a row that holds a changed item disagrees
-    disagrees : (i : ℕ) → 1 ≤ i → i ≤ F .rows → holdsOne F changed n i ≡ true → not (agrees i) ≡ true
-    disagrees i l u e =
-        let f : Found (λ j. F .on i j && changed j) n = any-found (λ j. F .on i j && changed j) n e in
-        ap not (loud i (f .at) l u (f .low) (f .high) (and-right (F .on i (f .at)) _ (f .passes)) (and-left (F .on i (f .at)) _ (f .passes)))
-
     least : (k : ℕ) → k ≤ countUpTo changed n → k * (F .limit + 1) - k * (k - 1) / 2 ≤ disagreeing agrees (F .rows)
     unfolding disagreeing
     least k h =
-        omega (arith, count-mono (holdsOne F changed n) (λ r. not (agrees r)) (F .rows) disagrees, pairs-half k, held-least F P changed n fits k h)
+        omega (
+          arith,
+          count-mono (holdsOne F changed n) (λ r. not (agrees r)) (F .rows) (λ i l u t. ap not (loud i l u t)),
+          pairs-half k,
+          held-least F P changed n fits k h,
+        )
 
   pub tallies : Tallies (F .limit) n (ChangedRowsDisagree F n changed agrees) changed (disagreeing agrees (F .rows))
   tallies = record {

@@ -1,4 +1,4 @@
--- The numbers 1 to n that pass a test: how many, whether any, and which. Rows, items and tags are numbered so (document 01, Planes).
+-- The numbers 1 to n that pass a test: how many, whether any, whether each, and which. Rows, items and tags are numbered so (document 01, Planes).
 -- Each goes up by one number at a time, so that what holds of the first n needs no definition of its own. Assumes nothing.
 use mathlib.Core.Bool.{Bool, true, false, _&&_, _||_}
 use mathlib.Core.List.{List, [], _∷_, _++_}
@@ -20,6 +20,11 @@ countUpTo p (suc n) = countUpTo p n + indicator (p (suc n))
 abbrev pub anyUpTo : (ℕ → Bool) → ℕ → Bool
 anyUpTo p zero = false
 anyUpTo p (suc n) = anyUpTo p n || p (suc n)
+
+-- whether each of the numbers 1 to n passes p
+abbrev pub allUpTo : (ℕ → Bool) → ℕ → Bool
+allUpTo p zero = true
+allUpTo p (suc n) = allUpTo p n && p (suc n)
 
 -- the numbers 1 to n that pass p, rising
 abbrev pub listed : (ℕ → Bool) → ℕ → List ℕ

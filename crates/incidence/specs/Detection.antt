@@ -6,7 +6,7 @@ use mathlib.Core.Bool.{Bool, true, false}
 use mathlib.Core.Logic.{_↔_}
 use Prim.Native.Nat.{ℕ, _≤_, _<_}
 use Rattle.incidence.specs.Count.{countUpTo}
-use Rattle.incidence.specs.Family.{Family}
+use Rattle.incidence.specs.Family.{Family, holdsOne}
 use Rattle.incidence.specs.declared.Answer.{Answer}
 use Rattle.incidence.specs.declared.Answer.the-variants.{Intact, Named, Beyond}
 
@@ -27,9 +27,9 @@ pub record Detects (d n : ℕ) (NoRowCancels : Type 0) (changed marked : ℕ →
 -- a row without a changed item agrees
 abbrev pub QuietRowsAgree : Family → ℕ → (ℕ → Bool) → (ℕ → Bool) → Type 0
 QuietRowsAgree F n changed agrees =
-    (i : ℕ) → 1 ≤ i → i ≤ F .rows → ((j : ℕ) → 1 ≤ j → j ≤ n → changed j ≡ true → F .on i j ≡ false) → agrees i ≡ true
+    (i : ℕ) → 1 ≤ i → i ≤ F .rows → holdsOne F changed n i ≡ false → agrees i ≡ true
 
 -- a row with a changed item disagrees
 abbrev pub ChangedRowsDisagree : Family → ℕ → (ℕ → Bool) → (ℕ → Bool) → Type 0
 ChangedRowsDisagree F n changed agrees =
-    (i j : ℕ) → 1 ≤ i → i ≤ F .rows → 1 ≤ j → j ≤ n → changed j ≡ true → F .on i j ≡ true → agrees i ≡ false
+    (i : ℕ) → 1 ≤ i → i ≤ F .rows → holdsOne F changed n i ≡ true → agrees i ≡ false

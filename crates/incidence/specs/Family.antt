@@ -2,10 +2,10 @@
 -- them, and what a projective plane has besides. Everything above the planes and the affine sizes speaks of these names alone. Assumes
 -- nothing.
 use mathlib.Core.Path.{_≡_}
-use mathlib.Core.Bool.{Bool, true, false, _&&_, xor}
+use mathlib.Core.Bool.{Bool, true, false, not, _&&_, _||_, xor}
 use mathlib.Core.List.{List, [], _∷_}
 use Prim.Native.Nat.{ℕ, _+_, _≤_, _<_}
-use Rattle.incidence.specs.Count.{countUpTo, listed}
+use Rattle.incidence.specs.Count.{countUpTo, anyUpTo, allUpTo, listed}
 
 -- 000, 4.3: the matrix with its extension rule. Items, rows and tags are numbered from 1.
 pub record Family : Type 0 where
@@ -32,6 +32,14 @@ itemsOf F i = listed (F .on i) (F .items)
 -- the tags whose rows hold item j, rising
 unfoldable pub tagsOf : Family → ℕ → List ℕ
 tagsOf F j = listed (λ k. F .on (F .rowOfTag k) j) (F .tags)
+
+-- whether row i holds one of the items 1 to n of a set
+abbrev pub holdsOne : Family → (ℕ → Bool) → ℕ → ℕ → Bool
+holdsOne F set n i = anyUpTo (λ j. F .on i j && set j) n
+
+-- 000, 2.1: whether the items 1 to n of a set cover item j, so that each row through it holds one of them
+unfoldable pub covered : Family → (ℕ → Bool) → ℕ → ℕ → Bool
+covered F set n j = allUpTo (λ i. not (F .on i j) || holdsOne F set n i) (F .rows)
 
 -- a row that holds item j and no item of the set
 pub record Separates (F : Family) (set : ℕ → Bool) (j : ℕ) : Type 0 where

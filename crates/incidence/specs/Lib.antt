@@ -5,3 +5,4 @@ pub mod Sum
 pub mod Report
 pub mod Detection
 pub mod Tally
+pub mod Naming

@@ -6,7 +6,7 @@ use Prim.Native.String.{String}
 use lib.Dec.{eqb, leb}
 use Rattle.blocks.specs.Block.{if_then_else_}
 use Rattle.incidence.specs.Count.{countUpTo, anyUpTo}
-use Rattle.incidence.specs.Family.{Family}
+use Rattle.incidence.specs.Family.{Family, holdsOne}
 use Rattle.incidence.specs.declared.Answer.{Answer}
 use Rattle.incidence.specs.declared.Answer.the-variants.{Intact, Named, Beyond}
 
@@ -27,13 +27,9 @@ numberNamed F agrees n = countUpTo (named F agrees) n
 unfoldable pub disagreeing : (ℕ → Bool) → ℕ → ℕ
 disagreeing agrees i = countUpTo (λ r. not (agrees r)) i
 
--- whether row i holds a named item
-unfoldable pub holdsNamed : Family → (ℕ → Bool) → ℕ → ℕ → Bool
-holdsNamed F agrees n i = anyUpTo (λ j. F .on i j && named F agrees j) n
-
 -- whether one of the first i rows is unexplained: it disagrees and holds no named item
 unfoldable pub someUnexplained : Family → (ℕ → Bool) → ℕ → ℕ → Bool
-someUnexplained F agrees n i = anyUpTo (λ r. not (agrees r) && not (holdsNamed F agrees n r)) i
+someUnexplained F agrees n i = anyUpTo (λ r. not (agrees r) && not (holdsOne F (named F agrees) n r)) i
 
 -- ---- the answers
 

@@ -1,5 +1,5 @@
--- Demand 3 and request 2.2 of what is printed: where the first message is tagged and the second is a message of as many items with the same
--- number, the lines are those of a report that is not refused (scheme, Guarantees), of which both hold (scheme, Claiming).
+-- Demand 3 and requests 2.2 and 2.13 of what is printed: where the first message is tagged and the second is a message of as many items with
+-- the same number, the lines are those of a report that is not refused (scheme, Guarantees), of which they hold (scheme, Claiming).
 use Rattle.fips197.proofs.Kit.{_≡_, refl, sym, ap, _∙_, Bool, true, List, ℕ, _≤_, arith, drop}
 use Rattle.blocks.specs.Block.{if_then_else_, Bytes, zeros}
 use Rattle.blocks.proofs.Xor.{take-bytes, drop-bytes}
@@ -14,7 +14,7 @@ use Rattle.checks.specs.Refused.{tagRefusal, reportRefusal}
 use Rattle.scheme.specs.Calls.{stampIn, reportAnswer, reportNamed, reportRows, reportWrites}
 use Rattle.checks.proofs.Checking.{taggable, reportable}
 use Rattle.scheme.proofs.Guarantees.{report-passes, tag-fits, tag-unaltered}
-use Rattle.scheme.proofs.Claiming.{claim, row-claim}
+use Rattle.scheme.proofs.Claiming.{claim, row-claim, name-claim}
 use Rattle.printing.specs.Text.{ascii}
 use Rattle.printing.specs.Lines.{reportLines}
 use Rattle.reporting.specs.Printed.{keyBytes, codeByte, firstSize, firstMessage, secondMessage, readable, tagText, printed}
@@ -72,7 +72,7 @@ module _ (input : List ℕ) (bytes : Bytes input) where
         ∙ tag-done keys code first second none (sym tags) refl (itemCount first) file refl refl
         ∙ sym (ap (λ (t : Bool). if t then tagText keys code first second else ascii "unreadable\n") yes)
 
-    -- every sentence of demand 3 and of request 2.2 holds of what is printed
+    -- every sentence of demand 3 and of both requests holds of what is printed
     pub detected : Detected input
     unfolding reportWrites reportNamed reportAnswer reportRows tagHead stampFor stampIn
     detected =
@@ -83,6 +83,8 @@ module _ (input : List ℕ) (bytes : Bytes input) where
         (sym (given none (reportRefusal keys second file 273) e _ _ refl)) (tagHead code first) (item first) (tag-unaltered keys code first 1340 first-bytes tags) (sym same) in
         let c = row-claim keys second file 273 keys-bytes R (reportRows keys second file lent) (sym (given none (reportRefusal keys second file 273) e _ _ refl))
         (tagHead code first) (item first) (tag-unaltered keys code first 1340 first-bytes tags) (sym same) in
+        let l = name-claim keys second file 273 keys-bytes R (reportWrites keys second file lent) _ (sym (given none (reportRefusal keys second file 273) e _ _ refl))
+        (tagHead code first) (item first) (tag-unaltered keys code first 1340 first-bytes tags) (sym same) in
         record {
           said = reportAnswer keys second file lent;
           names = reportNamed keys second file lent;
@@ -92,4 +94,5 @@ module _ (input : List ℕ) (bytes : Bytes input) where
           number = g .1;
           detects = g .0;
           tallies = c;
+          names-covered = l;
         }

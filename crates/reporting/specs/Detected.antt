@@ -1,6 +1,6 @@
--- Demand 3 of document 00, and request 2.2 of document 02, of what the report program prints: the lines of a report for which every sentence
--- of both holds, with the first message's items as the old ones and the second's as the new, each under its message's number. Assumes
--- nothing.
+-- Demand 3 of document 00, and requests 2.2 and 2.13 of document 02, of what the report program prints: the lines of a report for which every
+-- sentence of the three holds, with the first message's items as the old ones and the second's as the new, each under its message's number.
+-- Assumes nothing.
 use mathlib.Core.Path.{_≡_}
 use mathlib.Core.Bool.{true}
 use mathlib.Core.List.{List}
@@ -8,6 +8,7 @@ use Prim.Native.Nat.{ℕ}
 use Rattle.incidence.specs.Count.{countUpTo}
 use Rattle.incidence.specs.Detection.{Detects}
 use Rattle.incidence.specs.Tally.{Tallies}
+use Rattle.incidence.specs.Naming.{NamesCovered}
 use Rattle.incidence.specs.declared.Answer.{Answer}
 use Rattle.sizes.specs.Sizes.{planeCode, familyOf}
 use Rattle.files.specs.Message.{itemCount, item}
@@ -31,3 +32,7 @@ pub record Detected (input : List ℕ) : Type 0 where
       → Tallies (familyOf (codeByte input) .limit) (itemCount (secondMessage input))
       (NoneCancels (keyBytes input) (secondMessage input) (tagHead (codeByte input) (firstMessage input)) (item (firstMessage input)))
       (changed (item (firstMessage input)) (item (secondMessage input))) rows
+  pub names-covered :
+      NamesCovered (familyOf (codeByte input)) (itemCount (secondMessage input))
+      (NoneCancels (keyBytes input) (secondMessage input) (tagHead (codeByte input) (firstMessage input)) (item (firstMessage input)))
+      (changed (item (firstMessage input)) (item (secondMessage input))) (marked marks)

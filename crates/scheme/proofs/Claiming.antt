@@ -1,5 +1,5 @@
--- Demand 3 of Report, and request 2.2: against an unaltered tag file, a row agrees where the XORs of its old and new hashes are equal; the
--- rest is the detection theorem and the counting theorem of crate incidence.
+-- Demand 3 of Report, and requests 2.2 and 2.13: against an unaltered tag file, a row agrees where the XORs of its old and new hashes are
+-- equal; the rest is the detection theorem, the counting theorem and the naming theorem of crate incidence.
 use Rattle.fips197.proofs.Kit.{_≡_, refl, sym, ap, ap₂, _∙_, subst, Bool, true, false, not, List, [], _∷_, _++_, _⊎_, inl, inr, ℕ, zero, suc, _-_, _≤_, _<_, arith, le-of-suc-le-suc, eq-or-lt-of-le, eqb, length, getD, length-append, List·getD-append, getD-at}
 use Rattle.blocks.specs.Block.{Bytes, same}
 use Rattle.blocks.proofs.Xor.{same-true, same-eq}
@@ -10,12 +10,14 @@ use Rattle.incidence.specs.Sum.{rowSum}
 use Rattle.incidence.specs.Report.{named, numberNamed, disagreeing, answer}
 use Rattle.incidence.specs.Detection.{Detects, QuietRowsAgree, ChangedRowsDisagree}
 use Rattle.incidence.specs.Tally.{Tallies}
+use Rattle.incidence.specs.Naming.{NamesCovered}
 use Rattle.incidence.specs.declared.Answer.{Answer}
-use Rattle.incidence.proofs.Booleans.{not-both, not-passed}
+use Rattle.incidence.proofs.Booleans.{and-left, and-right, not-both, not-passed, not-failed}
 use Rattle.incidence.proofs.Counting.{count-ext}
 use Rattle.incidence.proofs.Sums.{rowSum-same}
+use Rattle.incidence.proofs.Covering.{holds-item, item-held, names-covered}
 use Rattle.incidence.proofs.Detection.{detects}
-use Rattle.incidence.proofs.Rejects.{detects-as, tallies-as}
+use Rattle.incidence.proofs.Rejects.{detects-as, tallies-as, names-covered-as}
 use Rattle.incidence.proofs.Tallying.{tallies}
 use Rattle.sizes.specs.Sizes.{planeCode, familyOf}
 use Rattle.sizes.proofs.Laws.{lawful, projective}
@@ -29,7 +31,7 @@ use Rattle.decoding.specs.Decoding.{marksOf}
 use Rattle.tagging.specs.declared.Keys.{Keys}
 use Rattle.tagging.specs.Tagging.{keysIn, hashes, fileOf, tagFile}
 use Rattle.scheme.specs.Calls.{stampIn, sumFrom, agrees}
-use Rattle.scheme.specs.Claim.{Unaltered, changed, marked, NoneCancels, Claim, RowClaim}
+use Rattle.scheme.specs.Claim.{Unaltered, changed, marked, NoneCancels, Claim, RowClaim, NameClaim}
 use Rattle.checks.specs.Passed.{Reportable}
 use Rattle.tagging.proofs.Summing.{hashes-long}
 use Rattle.scheme.proofs.Unaltered as unaltered
@@ -84,7 +86,7 @@ module _ (keys s f : List ℕ) (room : ℕ) (b : Bytes keys) (R : Reportable key
   B : KeyBlocks K
   B = key-blocks keys b (R .files .keys48)
 
-  fit : countFits (h .code) (h .count) ≡ true
+  pub fit : countFits (h .code) (h .count) ≡ true
   fit = ap₂ countFits (sym (code-says keys h old f U)) (count ∙ R .files .counts) ∙ R .files .file .fits
 
   abbrev F : Family
@@ -114,33 +116,36 @@ module _ (keys s f : List ℕ) (room : ℕ) (b : Bytes keys) (R : Reportable key
 
   quiet : QuietRowsAgree F n (changed old (item s)) (agrees K s f)
   unfolding changed hashes
-  quiet i l u h′ =
+  quiet i l u none =
       row-agrees i l u
       ∙ same-eq _ _ (sym (rowSum-same F (hashes K (h .stamp) old) (hashes-long K (B .item .long) (h .stamp) old) n (hashes K st (item s)) i
       (λ j a b o. ap₂ (λ (t : Stamp) (x : List ℕ). hashes K t (λ m. x) j) (sym same-stamp) (same-true (old j) (item s j) (unchanged j a b o)))))
     where
       unchanged : (j : ℕ) → 1 ≤ j → j ≤ n → F .on i j ≡ true → same (old j) (item s j) ≡ true
-      unchanged j a b o = go (same (old j) (item s j)) refl
-        where
-          go : (t : Bool) → same (old j) (item s j) ≡ t → same (old j) (item s j) ≡ true
-          go true e = e
-          go false e = absurd (not-both (F .on i j) o (h′ j a b (ap not e)))
+      unchanged j a b o = not-failed (same (old j) (item s j)) (λ e. not-both _ (holds-item F (changed old (item s)) n i j a b o (ap not e)) none)
 
   loud : NoneCancels keys s h old → ChangedRowsDisagree F n (changed old (item s)) (agrees K s f)
-  loud none i j l u a b ch o =
+  loud none i l u c =
+      let w = item-held F (changed old (item s)) n i c in
       not-passed (agrees K s f i) (λ t. none i (record {
         low = l;
         high = u;
-        at = j;
-        at-low = a;
-        at-high = b;
-        changes = ch;
-        holds = o;
+        at = w .at;
+        at-low = w .low;
+        at-high = w .high;
+        changes = and-right (F .on i (w .at)) _ (w .passes);
+        holds = and-left (F .on i (w .at)) _ (w .passes);
         equal = sym (same-true _ _ (sym (row-agrees i l u) ∙ t));
       }))
 
   many : n ≤ F .items
   many = subst (λ (x : ℕ). x ≤ F .items) count (unaltered.fit-count K B h (U .stamped) fit old (U .bytes))
+
+  -- the items marked are those that the report names
+  marks-named : (marks rest : List ℕ) → marks ≡ marksOf (named (familyOf (codeOf f)) (agrees K s f)) n ++ rest
+      → (j : ℕ) → 1 ≤ j → j ≤ n → marked marks j ≡ named F (agrees K s f) j
+  marks-named marks rest em =
+      marked-is (named F (agrees K s f)) n rest marks (em ∙ ap (λ (x : ℕ). marksOf (named (familyOf x) (agrees K s f)) n ++ rest) (code-says keys h old f U))
 
   claimed : (marks rest : List ℕ) (names : ℕ) (said : Answer)
       → marks ≡ marksOf (named (familyOf (codeOf f)) (agrees K s f)) n ++ rest
@@ -151,14 +156,12 @@ module _ (keys s f : List ℕ) (room : ℕ) (b : Bytes keys) (R : Reportable key
   unfolding numberNamed
   claimed marks rest names said em en es =
       let A = agrees K s f in
-      let m = em ∙ ap (λ (x : ℕ). marksOf (named (familyOf x) A) n ++ rest) (code-says keys h old f U) in
       let a = es ∙ ap (λ (x : ℕ). answer (familyOf x) A n) (code-says keys h old f U) in
       let k = en ∙ ap (λ (x : ℕ). numberNamed (familyOf x) A n) (code-says keys h old f U) in (
         subst (λ (x : Answer). Detects (F .limit) n (NoneCancels keys s h old) (changed old (item s)) (marked marks) x) (sym a)
-            (detects-as (F .limit) n _ _ (changed old (item s)) (named F A) (marked marks) (answer F A n) loud
-            (marked-is (named F A) n rest marks m)
+            (detects-as (F .limit) n _ _ (changed old (item s)) (named F A) (marked marks) (answer F A n) loud (marks-named marks rest em)
             (detects F (lawful (h .code) (unaltered.fit-code K B h (U .stamped) fit old (U .bytes))) n many (changed old (item s)) A quiet)),
-        k ∙ sym (count-ext (marked marks) (named F A) n (marked-is (named F A) n rest marks m)),
+        k ∙ sym (count-ext (marked marks) (named F A) n (marks-named marks rest em)),
       )
 
   tallied : planeCode (h .code) ≡ true → (rows : ℕ) → rows ≡ disagreeing (agrees K s f) (familyOf (codeOf f) .rows)
@@ -168,6 +171,12 @@ module _ (keys s f : List ℕ) (room : ℕ) (b : Bytes keys) (R : Reportable key
       let r = er ∙ ap (λ (x : ℕ). disagreeing A (familyOf x .rows)) (code-says keys h old f U) in
       subst (Tallies (F .limit) n (NoneCancels keys s h old) (changed old (item s))) (sym r)
       (tallies-as (F .limit) n _ _ (changed old (item s)) _ loud (tallies F (projective (h .code) plane) n many (changed old (item s)) A quiet))
+
+  covers : (marks rest : List ℕ) → marks ≡ marksOf (named (familyOf (codeOf f)) (agrees K s f)) n ++ rest
+      → NamesCovered F n (NoneCancels keys s h old) (changed old (item s)) (marked marks)
+  covers marks rest em =
+      names-covered-as F n _ _ (changed old (item s)) (named F (agrees K s f)) (marked marks) loud (marks-named marks rest em)
+      (names-covered F n (changed old (item s)) (agrees K s f) quiet)
 
 -- ---- the claims
 
@@ -181,3 +190,6 @@ module _ (keys s f : List ℕ) (room : ℕ) (b : Bytes keys) (R : Reportable key
 
   pub row-claim : (rows : ℕ) → rows ≡ disagreeing (agrees (keysIn keys) s f) (familyOf (codeOf f) .rows) → RowClaim keys s f rows
   row-claim rows er h old U count plane = tallied keys s f room b R h old U count plane rows er
+
+  pub name-claim : (marks rest : List ℕ) → marks ≡ marksOf (named (familyOf (codeOf f)) (agrees (keysIn keys) s f)) (itemCount s) ++ rest → NameClaim keys s f marks
+  name-claim marks rest em h old U count = covers keys s f room b R h old U count marks rest em

@@ -4,5 +4,6 @@ pub mod Comparing
 pub mod Unaltered
 pub mod Claiming
 pub mod Guarantees
+pub mod Reloading
 pub mod Vacancies
 pub mod StarredCards

@@ -1,18 +1,19 @@
 -- Demand 3 of document 00, in document 01's 'Words of demand 3', for one report: what holds of the bytes that it wrote and of its answer,
--- whatever was done to the items. `Detects` (crate incidence) has a field for each sentence of the demand. And request 2.2 of document 02,
--- in the same words, of the number of rows that it returned (`Tallies`). Assumes nothing.
+-- whatever was done to the items. `Detects` (crate incidence) has a field for each sentence of the demand. And in the same words two requests
+-- of document 02: 2.2, of the number of rows that it returned (`Tallies`), and 2.13, of the marks (`NamesCovered`). Assumes nothing.
 use mathlib.Core.Path.{_≡_}
 use mathlib.Core.Bool.{Bool, true, not}
 use mathlib.Core.List.{List}
 use Prim.Native.Nat.{ℕ, _-_, _≤_}
 use lib.Dec.{eqb}
 use lib.ListN.{getD}
-use Rattle.blocks.specs.Block.{Bytes, same}
+use Rattle.blocks.specs.Block.{if_then_else_, Bytes, same}
 use Rattle.incidence.specs.Count.{countUpTo}
 use Rattle.incidence.specs.Family.{Family}
 use Rattle.incidence.specs.Sum.{rowSum}
 use Rattle.incidence.specs.Detection.{Detects}
 use Rattle.incidence.specs.Tally.{Tallies}
+use Rattle.incidence.specs.Naming.{NamesCovered}
 use Rattle.incidence.specs.declared.Answer.{Answer}
 use Rattle.sizes.specs.Sizes.{planeCode, familyOf}
 use Rattle.files.specs.Message.{itemCount, item}
@@ -82,3 +83,13 @@ abbrev pub RowClaim : List ℕ → List ℕ → List ℕ → ℕ → Type 0
 RowClaim keys s f rows =
     Against keys s f
     (λ h old. planeCode (h .code) ≡ true → Tallies (familyOf (h .code) .limit) (itemCount s) (NoneCancels keys s h old) (changed old (item s)) rows)
+
+-- Document 02, 2.13, of the marks written, at every size: "It covers planes and the affine family."
+abbrev pub NameClaim : List ℕ → List ℕ → List ℕ → List ℕ → Type 0
+NameClaim keys s f marks =
+    Against keys s f
+    (λ h old. NamesCovered (familyOf (h .code)) (itemCount s) (NoneCancels keys s h old) (changed old (item s)) (marked marks))
+
+-- the items after a reload: each one named has its old bytes back, and the others are as they were
+unfoldable pub reloaded : List ℕ → (ℕ → List ℕ) → (ℕ → List ℕ) → ℕ → List ℕ
+reloaded marks old new j = if marked marks j then old j else new j

@@ -1,4 +1,4 @@
--- What the call says, packed, and demand 3 and request 2.2 of it (Packing).
+-- What the call says, packed, and demand 3 and requests 2.2 and 2.13 of it (Packing).
 use Rattle.fips197.proofs.Kit.{_∙_, needs}
 use Rattle.firmware.proofs.Packing.{packed-same, report-read, claim-packed, rows-packed}
 use Rattle.firmware.proofs.gtm_report.Statement.{statement}
@@ -20,8 +20,11 @@ returns c =
           (
             λ q. claim-packed (d .args .keys .now) (d .args .message .now) (d .args .tagfile .now) (d .args .marks .now) _ _ _ _ _ (e .0) (a .0) (a .1 .0) (a .1 .1 .0) w z q _
                 (a .1 .1 .1 .0),
-            λ q. rows-packed (d .args .keys .now) (d .args .message .now) (d .args .tagfile .now) (d .args .marks .now) _ _ _ _ _ (e .0) (a .0) (a .1 .0) (a .1 .1 .0) w z q
-                (a .1 .1 .1 .1),
+            (
+              λ q. rows-packed (d .args .keys .now) (d .args .message .now) (d .args .tagfile .now) (d .args .marks .now) _ _ _ _ _ (e .0) (a .0) (a .1 .0) (a .1 .1 .0) w z q
+                  (a .1 .1 .1 .1 .0),
+              λ q. a .1 .1 .1 .1 .1 (z q),
+            ),
           ),
         ),
       ),

@@ -1,0 +1,88 @@
+-- What a list of named items is good for (document 02, 2.13), of a report against the unaltered file of the old items, where no row cancels:
+-- every changed item is on it, up to the limit no other is, and a reload of all that are on it leaves no item changed, so that the next report
+-- says "intact".
+use Rattle.fips197.proofs.Kit.{_≡_, refl, sym, ap, _∙_, Bool, true, false, not, List, ℕ, _≤_, arith, length}
+use Rattle.blocks.specs.Block.{if_then_else_, Bytes, same}
+use Rattle.blocks.proofs.Xor.{same-eq}
+use Rattle.incidence.specs.Count.{countUpTo}
+use Rattle.incidence.specs.declared.Answer.the-variants.{Intact}
+use Rattle.incidence.proofs.Booleans.{not-both, not-passed}
+use Rattle.incidence.proofs.Counting.{count-none}
+use Rattle.incidence.proofs.Covering.{own-covered, few-covered}
+use Rattle.sizes.specs.Sizes.{known, familyOf}
+use Rattle.sizes.proofs.Laws.{lawful}
+use Rattle.stamp.specs.Front.{stampOf}
+use Rattle.files.specs.Refusals.{none}
+use Rattle.files.specs.Message.{itemCount, item, refuse3, refuse5}
+use Rattle.files.specs.declared.tagfile.Head.{Head}
+use Rattle.files.proofs.Passing.{given}
+use Rattle.tagging.specs.Tagging.{keysIn}
+use Rattle.checks.specs.Refused.{reportRefusal}
+use Rattle.checks.specs.Passed.{Reportable}
+use Rattle.checks.proofs.Checking.{reportable}
+use Rattle.scheme.specs.Calls.{reportWrites, reportAnswer, reportNamed}
+use Rattle.scheme.specs.Claim.{Unaltered, changed, marked, NoneCancels, NameClaim, reloaded}
+use Rattle.scheme.proofs.Claiming.{fit, claim, name-claim}
+use Rattle.scheme.proofs.Guarantees.{report-passes, same-number}
+
+-- ---- the list
+
+module _ (keys s f marks : List ℕ) (N : NameClaim keys s f marks) (h : Head) (old : ℕ → List ℕ) (U : Unaltered (keysIn keys) h old f) (count : h .count ≡ itemCount s)
+    (free : NoneCancels keys s h old) where
+  -- a changed item is on it, however many changed
+  pub changed-named : (j : ℕ) → 1 ≤ j → j ≤ itemCount s → changed old (item s) j ≡ true → marked marks j ≡ true
+  changed-named j l u c = N h old U count .exact free j l u ∙ own-covered (familyOf (h .code)) (changed old (item s)) (itemCount s) j l u c
+
+  -- where no more than the limit changed, it is the changed ones (demand 3)
+  pub few-named : known (h .code) ≡ true → itemCount s ≤ familyOf (h .code) .items → countUpTo (changed old (item s)) (itemCount s) ≤ familyOf (h .code) .limit
+      → (j : ℕ) → 1 ≤ j → j ≤ itemCount s → marked marks j ≡ changed old (item s) j
+  few-named k m few j l u =
+      N h old U count .exact free j l u
+      ∙ few-covered (familyOf (h .code)) (familyOf (h .code) .limit) (lawful (h .code) k .disjunct) (changed old (item s)) (itemCount s) m few j l u
+
+  -- after a reload no item is changed
+  pub none-changed : (j : ℕ) → 1 ≤ j → j ≤ itemCount s → changed old (reloaded marks old (item s)) j ≡ false
+  unfolding changed reloaded
+  none-changed j l u = go (marked marks j) refl
+    where
+      go : (b : Bool) → marked marks j ≡ b → not (same (old j) (if b then old j else item s j)) ≡ false
+      go true e = ap not (same-eq (old j) (old j) refl)
+      go false e = not-passed _ (λ c. not-both (marked marks j) (changed-named j l u c) e)
+
+-- ---- the reload
+
+-- s is reported, and s′ is a message of as many items with the same number that holds the items as reloaded
+module _ (keys s f out : List ℕ) (b : Bytes keys) (e : reportRefusal keys s f (length out) ≡ none) (h : Head) (old : ℕ → List ℕ) (U : Unaltered (keysIn keys) h old f)
+    (count : h .count ≡ itemCount s) (free : NoneCancels keys s h old) (s′ : List ℕ) (head : refuse3 s′ ≡ none) (whole : refuse5 s′ ≡ none)
+    (number : stampOf s′ .number ≡ stampOf s .number) (as-many : itemCount s′ ≡ itemCount s)
+    (items : (j : ℕ) → 1 ≤ j → j ≤ itemCount s → item s′ j ≡ reloaded (reportWrites keys s f out) old (item s) j) (out′ : List ℕ) (room : itemCount s ≤ length out′) where
+  R : Reportable keys s f (length out)
+  R = reportable keys s f (length out) none (sym e) refl
+
+  N : NameClaim keys s f (reportWrites keys s f out)
+  unfolding reportWrites
+  N = name-claim keys s f (length out) b R _ _ (sym (given none (reportRefusal keys s f (length out)) (sym e) _ _ refl))
+
+  unchanged : (j : ℕ) → 1 ≤ j → j ≤ itemCount s′ → changed old (item s′) j ≡ false
+  unfolding changed
+  unchanged j l u =
+      let v : j ≤ itemCount s = omega arith in
+      ap (λ (x : List ℕ). not (same (old j) x)) (items j l v) ∙ none-changed keys s f _ N h old U count free j l v
+
+  -- the next report is not refused
+  pub reload-passes : reportRefusal keys s′ f (length out′) ≡ none
+  reload-passes =
+      report-passes keys s′ f b (R .files .keys48) head whole h old U (fit keys s f (length out) b R h old U count) (count ∙ sym as-many) (length out′)
+      (number ∙ same-number keys s f (length out) h old e U) (omega arith)
+
+  -- and says "intact"
+  pub reload-intact : reportAnswer keys s′ f out′ ≡ Intact
+  unfolding reportAnswer reportWrites reportNamed
+  reload-intact =
+      let p = sym reload-passes in
+      let R′ = reportable keys s′ f (length out′) none p refl in
+      claim keys s′ f (length out′) b R′ (reportWrites keys s′ f out′) _ (reportNamed keys s′ f out′) (reportAnswer keys s′ f out′)
+      (sym (given none (reportRefusal keys s′ f (length out′)) p _ _ refl)) (sym (given none (reportRefusal keys s′ f (length out′)) p _ _ refl))
+      (sym (given none (reportRefusal keys s′ f (length out′)) p _ _ refl)) h old U (count ∙ sym as-many) .0
+      .intact (λ i c. not-both (changed old (item s′) (c .at)) (c .changes) (unchanged (c .at) (c .at-low) (c .at-high)))
+      .1 (count-none (changed old (item s′)) (itemCount s′) (λ j l u t. not-both (changed old (item s′) j) t (unchanged j l u)))
