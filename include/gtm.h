@@ -87,11 +87,11 @@ uint64_t gtm_verify(const uint8_t *keys, size_t keys_len, const uint8_t *shelf, 
 /* Which cards were altered: writes a byte for each card of the shelf, 1 named and 0 cleared. gtm_answer(), gtm_named() and gtm_rows() of the
  * result are the answer, the number of cards named and the number of rows that disagree.
  *
- * Against an unaltered sheet, with d the last number of the size's line above and unless the changes of a row cancel out: a card is named
- * exactly when every row through it holds an altered card, so that all altered cards are named and, where more than d were altered, perhaps
- * others; once every card named is reloaded from a good copy, the next report is intact. At sizes 1 to 4 the rows tell how many cards were
- * altered: d + 1 disagree exactly when one was, 2 d + 1 exactly when two were and, whatever cancels out, more than k d + 1 only when more
- * than k were. */
+ * What follows is against an unaltered sheet, and d is the last number of the size's line above. Unless the changes of a row cancel out, a card
+ * is named exactly when every row through it holds an altered card: all altered cards are named and, where more than d were altered, perhaps
+ * others. With the same exception, once every card named is reloaded from a good copy the next report is intact. And at sizes 1 to 4 the rows
+ * tell how many cards were altered: with that exception d + 1 disagree exactly when one was, and 2 d + 1 exactly when two were; whatever
+ * cancels out, more than k d + 1 disagree only when more than k were. */
 uint64_t gtm_report(const uint8_t *keys, size_t keys_len, const uint8_t *shelf, size_t shelf_len, const uint8_t *sheet,
                     size_t sheet_len, uint8_t *marks, size_t marks_len);
 

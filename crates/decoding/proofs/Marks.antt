@@ -6,6 +6,7 @@ use Rattle.incidence.specs.Count.{indicator, countUpTo, anyUpTo}
 use Rattle.incidence.specs.Family.{Family, holdsOne, Lawful}
 use Rattle.incidence.specs.Report.{cleared, named, numberNamed, disagreeing, someUnexplained, answerBy, answer}
 use Rattle.incidence.proofs.Counting.{count-ext, any-ext}
+use Rattle.incidence.proofs.Covering.{holds-same}
 use Rattle.incidence.proofs.Differences.{none-named}
 use Rattle.decoding.specs.Decoding.{marksOf, markIn, Marked, Cleared, isMarked, unexplainedIn}
 
@@ -133,7 +134,7 @@ module _ (F : Family) (agrees : ℕ → Bool) {n : ℕ} {a b c : List ℕ} (all 
   count-is = count-ext (isMarked c) (named F agrees) n marked-named
 
   holds-is : (i : ℕ) → holdsOne F (isMarked c) n i ≡ holdsOne F (named F agrees) n i
-  holds-is i = any-ext _ _ n (λ j l u. ap (λ (t : Bool). F .on i j && t) (marked-named j l u))
+  holds-is i = holds-same F (isMarked c) (named F agrees) n i marked-named
 
   unexplained-is : anyUpTo (unexplainedIn F agrees c n) (F .rows) ≡ someUnexplained F agrees n (F .rows)
   unfolding unexplainedIn someUnexplained

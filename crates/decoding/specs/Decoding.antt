@@ -45,6 +45,6 @@ Cleared p n before after = Marked n (λ j. if p j then 0 else markIn before j) b
 unfoldable pub isMarked : List ℕ → ℕ → Bool
 isMarked marks j = not (eqb (markIn marks j) 0)
 
--- whether row i disagrees and holds none of the items 1 to n that is marked, so that not "every disagreeing row holds a named card"
+-- whether row i disagrees and holds none of the items 1 to n that are marked, so that not "every disagreeing row holds a named card"
 unfoldable pub unexplainedIn : Family → (ℕ → Bool) → List ℕ → ℕ → ℕ → Bool
 unexplainedIn F agrees marks n i = not (agrees i) && not (holdsOne F (isMarked marks) n i)

@@ -46,13 +46,13 @@ pub fn usage(fd: i32) {
 fn usage_of_reports(fd: i32) {
     io::write_all(
         fd,
-        b"Cards named: exactly those through which every row holds an altered card, so all altered ones and, above the limit,\n",
+        b"Cards named, unless changes cancel out: exactly those whose every row holds an altered card, so all altered ones and,\n",
     );
     io::write_all(
         fd,
-        b"perhaps others, unless changes cancel out. Reload them all from a good copy: with the same exception, the next report\n",
+        b"above the limit, perhaps others. Reload them all from a good copy: with the same exception, the next report says\n",
     );
-    io::write_all(fd, b"says intact.\n");
+    io::write_all(fd, b"intact.\n");
     io::write_all(
         fd,
         b"Rows that disagree, at SIZE 1 to 4: limit + 1 for one altered card, 2 x limit + 1 for two, at most k x limit + 1\n",

@@ -159,9 +159,9 @@ pub all-each : (p : ℕ → Bool) (n : ℕ) → ((i : ℕ) → 1 ≤ i → i ≤
 all-each p zero h = refl
 all-each p (suc n) h = and-both (all-each p n (λ i l u. h i l (omega arith))) (h (suc n) (omega arith) (omega arith))
 
-pub all-at : (p : ℕ → Bool) (n : ℕ) → allUpTo p n ≡ true → (i : ℕ) → 1 ≤ i → i ≤ n → p i ≡ true
-all-at p zero h i l u = absurd (omega arith)
-all-at p (suc n) h i l u = go (λ b. all-at p n (and-left (allUpTo p n) _ h) i l b) (last-or i n u)
+pub each-of-all : (p : ℕ → Bool) (n : ℕ) → allUpTo p n ≡ true → (i : ℕ) → 1 ≤ i → i ≤ n → p i ≡ true
+each-of-all p zero h i l u = absurd (omega arith)
+each-of-all p (suc n) h i l u = go (λ b. each-of-all p n (and-left (allUpTo p n) _ h) i l b) (last-or i n u)
   where
     go : (i ≤ n → p i ≡ true) → (i ≡ suc n) ⊎ (i ≤ n) → p i ≡ true
     go rest (inl s) = subst (λ (x : ℕ). p x ≡ true) (sym s) (and-right (allUpTo p n) _ h)

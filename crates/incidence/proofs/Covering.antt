@@ -1,14 +1,14 @@
 -- The naming theorem (document 02, 2.13), for any family and any test of its rows by which a row without a changed item agrees and, where no
 -- row cancels, every other disagrees: the items named are those that the changed ones cover. And what covers what: each item of a set is
 -- covered by it, and no other is where the family is disjunct enough (000, section 2.1).
-use Rattle.fips197.proofs.Kit.{_≡_, refl, subst, Bool, true, false, not, _&&_, _||_, _⊎_, inl, inr, ℕ, zero, suc, _≤_, _<_, arith, leb, le-leb, lt-leb}
+use Rattle.fips197.proofs.Kit.{_≡_, refl, ap, subst, Bool, true, false, not, _&&_, _||_, _⊎_, inl, inr, ℕ, zero, suc, _≤_, _<_, arith, leb, le-leb, lt-leb}
 use Rattle.incidence.specs.Count.{countUpTo}
 use Rattle.incidence.specs.Family.{Family, holdsOne, covered, Separates, Disjunct}
 use Rattle.incidence.specs.Report.{cleared, named}
 use Rattle.incidence.specs.Detection.{QuietRowsAgree, ChangedRowsDisagree}
 use Rattle.incidence.specs.Naming.{NamesCovered}
 use Rattle.incidence.proofs.Booleans.{and-left, and-right, and-both, not-both, not-passed, not-failed, both-ways}
-use Rattle.incidence.proofs.Counting.{Found, last-or, any-found, any-some, any-none, all-each, all-at, count-mono, count-some}
+use Rattle.incidence.proofs.Counting.{Found, last-or, any-found, any-some, any-none, any-ext, all-each, each-of-all, count-mono, count-some}
 
 -- ---- rows that hold an item of a set
 
@@ -26,7 +26,12 @@ module _ (F : Family) (set : ℕ → Bool) (n i : ℕ) where
   pub holds-none : countUpTo set n ≡ 0 → holdsOne F set n i ≡ false
   holds-none z = holds-no-item (λ j l u c o. let p : 0 < countUpTo set n = count-some set n j l u c in omega arith)
 
--- a larger set is held too
+-- sets of the same items are held alike
+pub holds-same : (F : Family) (set other : ℕ → Bool) (n i : ℕ) → ((j : ℕ) → 1 ≤ j → j ≤ n → set j ≡ other j) → holdsOne F set n i ≡ holdsOne F other n i
+holds-same F set other n i same =
+    any-ext (λ j. F .on i j && set j) (λ j. F .on i j && other j) n (λ j l u. ap (λ (t : Bool). F .on i j && t) (same j l u))
+
+-- and a larger one is held too
 pub holds-more : (F : Family) (set other : ℕ → Bool) (n i : ℕ) → ((j : ℕ) → 1 ≤ j → j ≤ n → set j ≡ true → other j ≡ true)
     → holdsOne F set n i ≡ true → holdsOne F other n i ≡ true
 holds-more F set other n i more t =
@@ -48,7 +53,7 @@ module _ (F : Family) (set : ℕ → Bool) (n j : ℕ) where
   pub covered-row : covered F set n j ≡ true → (i : ℕ) → 1 ≤ i → i ≤ F .rows → F .on i j ≡ true → holdsOne F set n i ≡ true
   unfolding covered
   covered-row c i l u o =
-      subst (λ (b : Bool). not b || holdsOne F set n i ≡ true) o (all-at (λ i. not (F .on i j) || holdsOne F set n i) (F .rows) c i l u)
+      subst (λ (b : Bool). not b || holdsOne F set n i ≡ true) o (each-of-all (λ i. not (F .on i j) || holdsOne F set n i) (F .rows) c i l u)
 
   -- an item of the set is covered by it
   pub own-covered : 1 ≤ j → j ≤ n → set j ≡ true → covered F set n j ≡ true

@@ -3,6 +3,7 @@ use Rattle.fips197.proofs.Kit.{_≡_, ap, ap₂, Bool, not, _&&_, ℕ, _≤_}
 use Rattle.incidence.specs.Family.{Family}
 use Rattle.incidence.specs.Report.{cleared, named, numberNamed, disagreeing, someUnexplained, answer}
 use Rattle.incidence.proofs.Counting.{count-ext, any-ext}
+use Rattle.incidence.proofs.Covering.{holds-same}
 
 module _ (F : Family) (a b : ℕ → Bool) (same : (i : ℕ) → 1 ≤ i → i ≤ F .rows → a i ≡ b i) where
   pub named-ext : (j : ℕ) → named F a j ≡ named F b j
@@ -21,7 +22,7 @@ module _ (F : Family) (a b : ℕ → Bool) (same : (i : ℕ) → 1 ≤ i → i �
   unfolding someUnexplained
   unexplained-ext n =
       any-ext _ _ (F .rows) (λ i l u. ap₂ (λ (s t : Bool). not s && not t) (same i l u)
-      (any-ext (λ j. F .on i j && named F a j) (λ j. F .on i j && named F b j) n (λ j p q. ap (λ (t : Bool). F .on i j && t) (named-ext j))))
+      (holds-same F (named F a) (named F b) n i (λ j p q. named-ext j)))
 
   pub answer-ext : (n : ℕ) → answer F a n ≡ answer F b n
   unfolding answer

@@ -37,7 +37,7 @@ tagsOf F j = listed (λ k. F .on (F .rowOfTag k) j) (F .tags)
 abbrev pub holdsOne : Family → (ℕ → Bool) → ℕ → ℕ → Bool
 holdsOne F set n i = anyUpTo (λ j. F .on i j && set j) n
 
--- 000, 2.1: whether the items 1 to n of a set cover item j, so that each row through it holds one of them
+-- 000, 2.1: whether the items 1 to n of a set cover item j: each row through it holds one of them
 unfoldable pub covered : Family → (ℕ → Bool) → ℕ → ℕ → Bool
 covered F set n j = allUpTo (λ i. not (F .on i j) || holdsOne F set n i) (F .rows)
 

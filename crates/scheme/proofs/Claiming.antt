@@ -19,7 +19,7 @@ use Rattle.incidence.proofs.Covering.{holds-item, item-held, names-covered}
 use Rattle.incidence.proofs.Detection.{detects}
 use Rattle.incidence.proofs.Rejects.{detects-as, tallies-as, names-covered-as}
 use Rattle.incidence.proofs.Tallying.{tallies}
-use Rattle.sizes.specs.Sizes.{planeCode, familyOf}
+use Rattle.sizes.specs.Sizes.{known, planeCode, familyOf}
 use Rattle.sizes.proofs.Laws.{lawful, projective}
 use Rattle.files.specs.Message.{itemCount, item}
 use Rattle.stamp.specs.declared.Stamp.{Stamp}
@@ -138,7 +138,10 @@ module _ (keys s f : List ℕ) (room : ℕ) (b : Bytes keys) (R : Reportable key
         equal = sym (same-true _ _ (sym (row-agrees i l u) ∙ t));
       }))
 
-  many : n ≤ F .items
+  pub is-known : known (h .code) ≡ true
+  is-known = unaltered.fit-code K B h (U .stamped) fit old (U .bytes)
+
+  pub many : n ≤ F .items
   many = subst (λ (x : ℕ). x ≤ F .items) count (unaltered.fit-count K B h (U .stamped) fit old (U .bytes))
 
   -- the items marked are those that the report names
@@ -160,7 +163,7 @@ module _ (keys s f : List ℕ) (room : ℕ) (b : Bytes keys) (R : Reportable key
       let k = en ∙ ap (λ (x : ℕ). numberNamed (familyOf x) A n) (code-says keys h old f U) in (
         subst (λ (x : Answer). Detects (F .limit) n (NoneCancels keys s h old) (changed old (item s)) (marked marks) x) (sym a)
             (detects-as (F .limit) n _ _ (changed old (item s)) (named F A) (marked marks) (answer F A n) loud (marks-named marks rest em)
-            (detects F (lawful (h .code) (unaltered.fit-code K B h (U .stamped) fit old (U .bytes))) n many (changed old (item s)) A quiet)),
+            (detects F (lawful (h .code) is-known) n many (changed old (item s)) A quiet)),
         k ∙ sym (count-ext (marked marks) (named F A) n (marks-named marks rest em)),
       )
 

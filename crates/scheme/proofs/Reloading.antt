@@ -9,7 +9,7 @@ use Rattle.incidence.specs.declared.Answer.the-variants.{Intact}
 use Rattle.incidence.proofs.Booleans.{not-both, not-passed}
 use Rattle.incidence.proofs.Counting.{count-none}
 use Rattle.incidence.proofs.Covering.{own-covered, few-covered}
-use Rattle.sizes.specs.Sizes.{known, familyOf}
+use Rattle.sizes.specs.Sizes.{familyOf}
 use Rattle.sizes.proofs.Laws.{lawful}
 use Rattle.stamp.specs.Front.{stampOf}
 use Rattle.files.specs.Refusals.{none}
@@ -22,7 +22,7 @@ use Rattle.checks.specs.Passed.{Reportable}
 use Rattle.checks.proofs.Checking.{reportable}
 use Rattle.scheme.specs.Calls.{reportWrites, reportAnswer, reportNamed}
 use Rattle.scheme.specs.Claim.{Unaltered, changed, marked, NoneCancels, NameClaim, reloaded}
-use Rattle.scheme.proofs.Claiming.{fit, claim, name-claim}
+use Rattle.scheme.proofs.Claiming.{fit, is-known, many, claim, name-claim}
 use Rattle.scheme.proofs.Guarantees.{report-passes, same-number}
 
 -- ---- the list
@@ -33,13 +33,6 @@ module _ (keys s f marks : List ℕ) (N : NameClaim keys s f marks) (h : Head) (
   pub changed-named : (j : ℕ) → 1 ≤ j → j ≤ itemCount s → changed old (item s) j ≡ true → marked marks j ≡ true
   changed-named j l u c = N h old U count .exact free j l u ∙ own-covered (familyOf (h .code)) (changed old (item s)) (itemCount s) j l u c
 
-  -- where no more than the limit changed, it is the changed ones (demand 3)
-  pub few-named : known (h .code) ≡ true → itemCount s ≤ familyOf (h .code) .items → countUpTo (changed old (item s)) (itemCount s) ≤ familyOf (h .code) .limit
-      → (j : ℕ) → 1 ≤ j → j ≤ itemCount s → marked marks j ≡ changed old (item s) j
-  few-named k m few j l u =
-      N h old U count .exact free j l u
-      ∙ few-covered (familyOf (h .code)) (familyOf (h .code) .limit) (lawful (h .code) k .disjunct) (changed old (item s)) (itemCount s) m few j l u
-
   -- after a reload no item is changed
   pub none-changed : (j : ℕ) → 1 ≤ j → j ≤ itemCount s → changed old (reloaded marks old (item s)) j ≡ false
   unfolding changed reloaded
@@ -49,13 +42,10 @@ module _ (keys s f marks : List ℕ) (N : NameClaim keys s f marks) (h : Head) (
       go true e = ap not (same-eq (old j) (old j) refl)
       go false e = not-passed _ (λ c. not-both (marked marks j) (changed-named j l u c) e)
 
--- ---- the reload
+-- ---- of a report that is not refused
 
--- s is reported, and s′ is a message of as many items with the same number that holds the items as reloaded
 module _ (keys s f out : List ℕ) (b : Bytes keys) (e : reportRefusal keys s f (length out) ≡ none) (h : Head) (old : ℕ → List ℕ) (U : Unaltered (keysIn keys) h old f)
-    (count : h .count ≡ itemCount s) (free : NoneCancels keys s h old) (s′ : List ℕ) (head : refuse3 s′ ≡ none) (whole : refuse5 s′ ≡ none)
-    (number : stampOf s′ .number ≡ stampOf s .number) (as-many : itemCount s′ ≡ itemCount s)
-    (items : (j : ℕ) → 1 ≤ j → j ≤ itemCount s → item s′ j ≡ reloaded (reportWrites keys s f out) old (item s) j) (out′ : List ℕ) (room : itemCount s ≤ length out′) where
+    (count : h .count ≡ itemCount s) where
   R : Reportable keys s f (length out)
   R = reportable keys s f (length out) none (sym e) refl
 
@@ -63,26 +53,38 @@ module _ (keys s f out : List ℕ) (b : Bytes keys) (e : reportRefusal keys s f 
   unfolding reportWrites
   N = name-claim keys s f (length out) b R _ _ (sym (given none (reportRefusal keys s f (length out)) (sym e) _ _ refl))
 
-  unchanged : (j : ℕ) → 1 ≤ j → j ≤ itemCount s′ → changed old (item s′) j ≡ false
-  unfolding changed
-  unchanged j l u =
-      let v : j ≤ itemCount s = omega arith in
-      ap (λ (x : List ℕ). not (same (old j) x)) (items j l v) ∙ none-changed keys s f _ N h old U count free j l v
+  -- where no more than the limit changed, the list is the changed ones (demand 3)
+  pub few-named : NoneCancels keys s h old → countUpTo (changed old (item s)) (itemCount s) ≤ familyOf (h .code) .limit
+      → (j : ℕ) → 1 ≤ j → j ≤ itemCount s → marked (reportWrites keys s f out) j ≡ changed old (item s) j
+  few-named free few j l u =
+      N h old U count .exact free j l u
+      ∙ few-covered (familyOf (h .code)) (familyOf (h .code) .limit) (lawful (h .code) (is-known keys s f (length out) b R h old U count) .disjunct) (changed old (item s))
+      (itemCount s) (many keys s f (length out) b R h old U count) few j l u
 
-  -- the next report is not refused
-  pub reload-passes : reportRefusal keys s′ f (length out′) ≡ none
-  reload-passes =
-      report-passes keys s′ f b (R .files .keys48) head whole h old U (fit keys s f (length out) b R h old U count) (count ∙ sym as-many) (length out′)
-      (number ∙ same-number keys s f (length out) h old e U) (omega arith)
+  -- s′ is a message of as many items with the same number
+  module _ (s′ : List ℕ) (head : refuse3 s′ ≡ none) (whole : refuse5 s′ ≡ none) (number : stampOf s′ .number ≡ stampOf s .number) (as-many : itemCount s′ ≡ itemCount s)
+      (out′ : List ℕ) (room : itemCount s ≤ length out′) where
+    -- a report on it is not refused
+    pub reload-passes : reportRefusal keys s′ f (length out′) ≡ none
+    reload-passes =
+        report-passes keys s′ f b (R .files .keys48) head whole h old U (fit keys s f (length out) b R h old U count) (count ∙ sym as-many) (length out′)
+        (number ∙ same-number keys s f (length out) h old e U) (omega arith)
 
-  -- and says "intact"
-  pub reload-intact : reportAnswer keys s′ f out′ ≡ Intact
-  unfolding reportAnswer reportWrites reportNamed
-  reload-intact =
-      let p = sym reload-passes in
-      let R′ = reportable keys s′ f (length out′) none p refl in
-      claim keys s′ f (length out′) b R′ (reportWrites keys s′ f out′) _ (reportNamed keys s′ f out′) (reportAnswer keys s′ f out′)
-      (sym (given none (reportRefusal keys s′ f (length out′)) p _ _ refl)) (sym (given none (reportRefusal keys s′ f (length out′)) p _ _ refl))
-      (sym (given none (reportRefusal keys s′ f (length out′)) p _ _ refl)) h old U (count ∙ sym as-many) .0
-      .intact (λ i c. not-both (changed old (item s′) (c .at)) (c .changes) (unchanged (c .at) (c .at-low) (c .at-high)))
-      .1 (count-none (changed old (item s′)) (itemCount s′) (λ j l u t. not-both (changed old (item s′) j) t (unchanged j l u)))
+    -- it holds the items as reloaded
+    module _ (free : NoneCancels keys s h old) (items : (j : ℕ) → 1 ≤ j → j ≤ itemCount s → item s′ j ≡ reloaded (reportWrites keys s f out) old (item s) j) where
+      unchanged : (j : ℕ) → 1 ≤ j → j ≤ itemCount s′ → changed old (item s′) j ≡ false
+      unfolding changed
+      unchanged j l u =
+          let v : j ≤ itemCount s = omega arith in
+          ap (λ (x : List ℕ). not (same (old j) x)) (items j l v) ∙ none-changed keys s f _ N h old U count free j l v
+
+      -- and the report says "intact"
+      pub reload-intact : reportAnswer keys s′ f out′ ≡ Intact
+      unfolding reportAnswer reportWrites reportNamed
+      reload-intact =
+          let p = sym reload-passes in
+          claim keys s′ f (length out′) b (reportable keys s′ f (length out′) none p refl) (reportWrites keys s′ f out′) _ (reportNamed keys s′ f out′) (reportAnswer keys s′ f out′)
+          (sym (given none (reportRefusal keys s′ f (length out′)) p _ _ refl)) (sym (given none (reportRefusal keys s′ f (length out′)) p _ _ refl))
+          (sym (given none (reportRefusal keys s′ f (length out′)) p _ _ refl)) h old U (count ∙ sym as-many) .0
+          .intact (λ i c. not-both (changed old (item s′) (c .at)) (c .changes) (unchanged (c .at) (c .at-low) (c .at-high)))
+          .1 (count-none (changed old (item s′)) (itemCount s′) (λ j l u t. not-both (changed old (item s′) j) t (unchanged j l u)))

@@ -1,6 +1,7 @@
 -- Demand 3 of document 00, in document 01's 'Words of demand 3', for one report: what holds of the bytes that it wrote and of its answer,
 -- whatever was done to the items. `Detects` (crate incidence) has a field for each sentence of the demand. And in the same words two requests
--- of document 02: 2.2, of the number of rows that it returned (`Tallies`), and 2.13, of the marks (`NamesCovered`). Assumes nothing.
+-- of document 02: 2.2, of the number of rows that it returned (`Tallies`), and 2.13, of the marks (`NamesCovered`), with the items after a
+-- reload. Assumes nothing.
 use mathlib.Core.Path.{_≡_}
 use mathlib.Core.Bool.{Bool, true, not}
 use mathlib.Core.List.{List}
@@ -89,6 +90,8 @@ abbrev pub NameClaim : List ℕ → List ℕ → List ℕ → List ℕ → Type 
 NameClaim keys s f marks =
     Against keys s f
     (λ h old. NamesCovered (familyOf (h .code)) (itemCount s) (NoneCancels keys s h old) (changed old (item s)) (marked marks))
+
+-- ---- what to do with a list of named items
 
 -- the items after a reload: each one named has its old bytes back, and the others are as they were
 unfoldable pub reloaded : List ℕ → (ℕ → List ℕ) → (ℕ → List ℕ) → ℕ → List ℕ

@@ -1,11 +1,11 @@
 -- Document 01, Bench cards: the cases marked * about planes, as one table of facts about the definitions. Sets are lists, rising.
 -- "suspects assume no cancelling row": a row agrees when it holds no changed item. Assumes nothing.
 use mathlib.Core.Path.{_≡_}
-use mathlib.Core.Bool.{Bool, not, _&&_}
+use mathlib.Core.Bool.{Bool, not}
 use mathlib.Core.List.{List, [], _∷_}
 use Prim.Native.Nat.{ℕ}
-use Rattle.incidence.specs.Count.{anyUpTo, listed}
-use Rattle.incidence.specs.Family.{rowsOf, itemsOf, parity}
+use Rattle.incidence.specs.Count.{listed}
+use Rattle.incidence.specs.Family.{rowsOf, itemsOf, holdsOne, parity}
 use Rattle.incidence.specs.Report.{named, answer}
 use Rattle.incidence.specs.declared.Answer.the-variants.{Named, Beyond}
 use Rattle.plane.specs.Plane.{member}
@@ -13,7 +13,7 @@ use Rattle.sizes.specs.Sizes.{familyOf}
 
 -- whether a row of size 1 agrees, with these items changed
 unfoldable pub agreesWith : List ℕ → ℕ → Bool
-agreesWith changed i = not (anyUpTo (λ j. familyOf 1 .on i j && member j changed) 7)
+agreesWith changed i = not (holdsOne (familyOf 1) (λ j. member j changed) 7 i)
 
 -- the rows that disagree, and the items that are not cleared
 unfoldable pub disagree : List ℕ → List ℕ

@@ -1,4 +1,4 @@
--- What the call says, packed, and demand 3 and requests 2.2 and 2.13 of it (Packing).
+-- What the call says, packed, with demand 3 and request 2.2 of it (Packing), and request 2.13 of the marks, which are as Report left them.
 use Rattle.fips197.proofs.Kit.{_∙_, needs}
 use Rattle.firmware.proofs.Packing.{packed-same, report-read, claim-packed, rows-packed}
 use Rattle.firmware.proofs.gtm_report.Statement.{statement}
