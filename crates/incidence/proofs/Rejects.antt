@@ -57,9 +57,9 @@ module _ (d n : ℕ) (C : Type 0) (changed : ℕ → Bool) (rows : ℕ) (T : Tal
 -- ---- what request 2.13, as `NamesCovered` states it, rules out
 
 module _ (F : Family) (n : ℕ) (C : Type 0) (changed marked : ℕ → Bool) (N : NamesCovered F n C changed marked) where
-  -- a changed item that is not named, however many changed
-  pub none-left-out : C → (j : ℕ) → 1 ≤ j → j ≤ n → changed j ≡ true → marked j ≡ false → ⊥
-  none-left-out c j l u e out = not-both (marked j) (N .exact c j l u ∙ own-covered F changed n j l u e) out
+  -- a changed item that is left out, however many changed: each one is named
+  pub none-left-out : C → (j : ℕ) → 1 ≤ j → j ≤ n → changed j ≡ true → marked j ≡ true
+  none-left-out c j l u e = N .exact c j l u ∙ own-covered F changed n j l u e
 
   -- an item that is named while some row through it holds no changed one, whatever the other rows hold
   pub not-by-some-row : (i j : ℕ) → 1 ≤ i → i ≤ F .rows → 1 ≤ j → j ≤ n → F .on i j ≡ true → holdsOne F changed n i ≡ false → marked j ≡ true → ⊥

@@ -1,5 +1,5 @@
--- The numbers 1 to n that pass a test: how many, whether any, whether each, and which. Rows, items and tags are numbered so (document 01, Planes).
--- Each goes up by one number at a time, so that what holds of the first n needs no definition of its own. Assumes nothing.
+-- The numbers 1 to n that pass a test: how many, whether any, whether each, and which. Rows, items and tags are numbered so (document 01,
+-- Planes). Each goes up by one number at a time, so that what holds of the first n needs no definition of its own. Assumes nothing.
 use mathlib.Core.Bool.{Bool, true, false, _&&_, _||_}
 use mathlib.Core.List.{List, [], _∷_, _++_}
 use Prim.Native.Nat.{ℕ, zero, suc, _+_}

@@ -8,13 +8,12 @@ use Rattle.stamp.specs.Front.{stampOf}
 use Rattle.files.specs.Refusals.{none}
 use Rattle.files.specs.Message.{itemCount, item, refuse3, refuse5}
 use Rattle.files.specs.TagFile.{stampFor}
-use Rattle.files.proofs.Passing.{given}
 use Rattle.tagging.specs.Tagging.{keysIn, tagFile, tagHead}
 use Rattle.checks.specs.Refused.{tagRefusal, reportRefusal}
 use Rattle.scheme.specs.Calls.{stampIn, reportAnswer, reportNamed, reportRows, reportWrites}
-use Rattle.checks.proofs.Checking.{taggable, reportable}
+use Rattle.checks.proofs.Checking.{taggable}
 use Rattle.scheme.proofs.Guarantees.{report-passes, tag-fits, tag-unaltered}
-use Rattle.scheme.proofs.Claiming.{claim, row-claim, name-claim}
+use Rattle.scheme.proofs.Claiming.{report-detects, report-counts, report-names}
 use Rattle.printing.specs.Text.{ascii}
 use Rattle.printing.specs.Lines.{reportLines}
 use Rattle.reporting.specs.Printed.{keyBytes, codeByte, firstSize, firstMessage, secondMessage, readable, tagText, printed}
@@ -74,17 +73,10 @@ module _ (input : List ℕ) (bytes : Bytes input) where
 
     -- every sentence of demand 3 and of both requests holds of what is printed
     pub detected : Detected input
-    unfolding reportWrites reportNamed reportAnswer reportRows tagHead stampFor stampIn
+    unfolding tagHead stampFor stampIn
     detected =
-        let e = sym passes-report in
-        let R = reportable keys second file 273 none e refl in
-        let g = claim keys second file 273 keys-bytes R (reportWrites keys second file lent) _ (reportNamed keys second file lent) (reportAnswer keys second file lent)
-        (sym (given none (reportRefusal keys second file 273) e _ _ refl)) (sym (given none (reportRefusal keys second file 273) e _ _ refl))
-        (sym (given none (reportRefusal keys second file 273) e _ _ refl)) (tagHead code first) (item first) (tag-unaltered keys code first 1340 first-bytes tags) (sym same) in
-        let c = row-claim keys second file 273 keys-bytes R (reportRows keys second file lent) (sym (given none (reportRefusal keys second file 273) e _ _ refl))
-        (tagHead code first) (item first) (tag-unaltered keys code first 1340 first-bytes tags) (sym same) in
-        let l = name-claim keys second file 273 keys-bytes R (reportWrites keys second file lent) _ (sym (given none (reportRefusal keys second file 273) e _ _ refl))
-        (tagHead code first) (item first) (tag-unaltered keys code first 1340 first-bytes tags) (sym same) in
+        let U = tag-unaltered keys code first 1340 first-bytes tags in
+        let g = report-detects keys second file lent keys-bytes passes-report (tagHead code first) (item first) U (sym same) in
         record {
           said = reportAnswer keys second file lent;
           names = reportNamed keys second file lent;
@@ -93,6 +85,6 @@ module _ (input : List ℕ) (bytes : Bytes input) where
           text = sym text-so;
           number = g .1;
           detects = g .0;
-          tallies = c;
-          names-covered = l;
+          tallies = report-counts keys second file lent keys-bytes passes-report (tagHead code first) (item first) U (sym same);
+          names-covered = report-names keys second file lent keys-bytes passes-report (tagHead code first) (item first) U (sym same);
         }

@@ -1,7 +1,7 @@
 -- Demand 3 of Report, and requests 2.2 and 2.13: against an unaltered tag file, a row agrees where the XORs of its old and new hashes are
 -- equal; the rest is the detection theorem, the counting theorem and the naming theorem of crate incidence.
 use Rattle.fips197.proofs.Kit.{_≡_, refl, sym, ap, ap₂, _∙_, subst, Bool, true, false, not, List, [], _∷_, _++_, _⊎_, inl, inr, ℕ, zero, suc, _-_, _≤_, _<_, arith, le-of-suc-le-suc, eq-or-lt-of-le, eqb, length, getD, length-append, List·getD-append, getD-at}
-use Rattle.blocks.specs.Block.{Bytes, same}
+use Rattle.blocks.specs.Block.{if_then_else_, Bytes, same}
 use Rattle.blocks.proofs.Xor.{same-true, same-eq}
 use Rattle.incidence.specs.Count.{countUpTo}
 use Rattle.incidence.specs.Count.{indicator}
@@ -21,18 +21,22 @@ use Rattle.incidence.proofs.Rejects.{detects-as, tallies-as, names-covered-as}
 use Rattle.incidence.proofs.Tallying.{tallies}
 use Rattle.sizes.specs.Sizes.{known, planeCode, familyOf}
 use Rattle.sizes.proofs.Laws.{lawful, projective}
+use Rattle.files.specs.Refusals.{none, passes}
 use Rattle.files.specs.Message.{itemCount, item}
 use Rattle.stamp.specs.declared.Stamp.{Stamp}
 use Rattle.stamp.specs.Front.{stampOf}
 use Rattle.files.specs.declared.tagfile.Head.{Head}
 use Rattle.files.specs.TagFile.{codeOf, headOf, countFits}
 use Rattle.files.proofs.Accepted.{code-is, stamp-is}
+use Rattle.files.proofs.Passing.{given}
 use Rattle.decoding.specs.Decoding.{marksOf}
 use Rattle.tagging.specs.declared.Keys.{Keys}
 use Rattle.tagging.specs.Tagging.{keysIn, hashes, fileOf, tagFile}
-use Rattle.scheme.specs.Calls.{stampIn, sumFrom, agrees}
+use Rattle.scheme.specs.Calls.{stampIn, sumFrom, agrees, reportWrites, reportAnswer, reportNamed, reportRows}
 use Rattle.scheme.specs.Claim.{Unaltered, changed, marked, NoneCancels, Claim, RowClaim, NameClaim}
+use Rattle.checks.specs.Refused.{reportRefusal}
 use Rattle.checks.specs.Passed.{Reportable}
+use Rattle.checks.proofs.Checking.{reportable}
 use Rattle.tagging.proofs.Summing.{hashes-long}
 use Rattle.scheme.proofs.Unaltered as unaltered
 use Rattle.scheme.proofs.Unaltered.{KeyBlocks, key-blocks}
@@ -116,18 +120,18 @@ module _ (keys s f : List ℕ) (room : ℕ) (b : Bytes keys) (R : Reportable key
 
   quiet : QuietRowsAgree F n (changed old (item s)) (agrees K s f)
   unfolding changed hashes
-  quiet i l u none =
+  quiet i l u free =
       row-agrees i l u
       ∙ same-eq _ _ (sym (rowSum-same F (hashes K (h .stamp) old) (hashes-long K (B .item .long) (h .stamp) old) n (hashes K st (item s)) i
       (λ j a b o. ap₂ (λ (t : Stamp) (x : List ℕ). hashes K t (λ m. x) j) (sym same-stamp) (same-true (old j) (item s j) (unchanged j a b o)))))
     where
       unchanged : (j : ℕ) → 1 ≤ j → j ≤ n → F .on i j ≡ true → same (old j) (item s j) ≡ true
-      unchanged j a b o = not-failed (same (old j) (item s j)) (λ e. not-both _ (holds-item F (changed old (item s)) n i j a b o (ap not e)) none)
+      unchanged j a b o = not-failed (same (old j) (item s j)) (λ e. not-both _ (holds-item F (changed old (item s)) n i j a b o (ap not e)) free)
 
   loud : NoneCancels keys s h old → ChangedRowsDisagree F n (changed old (item s)) (agrees K s f)
-  loud none i l u c =
+  loud free i l u c =
       let w = item-held F (changed old (item s)) n i c in
-      not-passed (agrees K s f i) (λ t. none i (record {
+      not-passed (agrees K s f i) (λ t. free i (record {
         low = l;
         high = u;
         at = w .at;
@@ -196,3 +200,25 @@ module _ (keys s f : List ℕ) (room : ℕ) (b : Bytes keys) (R : Reportable key
 
   pub name-claim : (marks rest : List ℕ) → marks ≡ marksOf (named (familyOf (codeOf f)) (agrees (keysIn keys) s f)) (itemCount s) ++ rest → NameClaim keys s f marks
   name-claim marks rest em h old U count = covers keys s f room b R h old U count marks rest em
+
+-- ---- and of the definitions, wherever a report is not refused
+
+module _ (keys s f out : List ℕ) (b : Bytes keys) (e : reportRefusal keys s f (length out) ≡ none) where
+  pub passed : Reportable keys s f (length out)
+  passed = reportable keys s f (length out) none (sym e) refl
+
+  -- what is written where nothing is refused
+  done : {A : Type 0} (x y : A) → (if passes (reportRefusal keys s f (length out)) then x else y) ≡ x
+  done x y = sym (given none (reportRefusal keys s f (length out)) (sym e) x y refl)
+
+  pub report-detects : Claim keys s f (reportWrites keys s f out) (reportNamed keys s f out) (reportAnswer keys s f out)
+  unfolding reportWrites reportNamed reportAnswer
+  report-detects = claim keys s f (length out) b passed _ _ _ _ (done _ _) (done _ _) (done _ _)
+
+  pub report-counts : RowClaim keys s f (reportRows keys s f out)
+  unfolding reportRows
+  report-counts = row-claim keys s f (length out) b passed _ (done _ _)
+
+  pub report-names : NameClaim keys s f (reportWrites keys s f out)
+  unfolding reportWrites
+  report-names = name-claim keys s f (length out) b passed _ _ (done _ _)

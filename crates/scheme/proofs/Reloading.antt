@@ -8,21 +8,20 @@ use Rattle.incidence.specs.Count.{countUpTo}
 use Rattle.incidence.specs.declared.Answer.the-variants.{Intact}
 use Rattle.incidence.proofs.Booleans.{not-both, not-passed}
 use Rattle.incidence.proofs.Counting.{count-none}
-use Rattle.incidence.proofs.Covering.{own-covered, few-covered}
+use Rattle.incidence.proofs.Covering.{few-covered}
+use Rattle.incidence.proofs.Rejects.{none-left-out}
 use Rattle.sizes.specs.Sizes.{familyOf}
 use Rattle.sizes.proofs.Laws.{lawful}
 use Rattle.stamp.specs.Front.{stampOf}
 use Rattle.files.specs.Refusals.{none}
 use Rattle.files.specs.Message.{itemCount, item, refuse3, refuse5}
 use Rattle.files.specs.declared.tagfile.Head.{Head}
-use Rattle.files.proofs.Passing.{given}
 use Rattle.tagging.specs.Tagging.{keysIn}
 use Rattle.checks.specs.Refused.{reportRefusal}
 use Rattle.checks.specs.Passed.{Reportable}
-use Rattle.checks.proofs.Checking.{reportable}
-use Rattle.scheme.specs.Calls.{reportWrites, reportAnswer, reportNamed}
+use Rattle.scheme.specs.Calls.{reportWrites, reportAnswer}
 use Rattle.scheme.specs.Claim.{Unaltered, changed, marked, NoneCancels, NameClaim, reloaded}
-use Rattle.scheme.proofs.Claiming.{fit, is-known, many, claim, name-claim}
+use Rattle.scheme.proofs.Claiming.{fit, is-known, many, passed, report-detects, report-names}
 use Rattle.scheme.proofs.Guarantees.{report-passes, same-number}
 
 -- ---- the list
@@ -31,7 +30,7 @@ module _ (keys s f marks : List ℕ) (N : NameClaim keys s f marks) (h : Head) (
     (free : NoneCancels keys s h old) where
   -- a changed item is on it, however many changed
   pub changed-named : (j : ℕ) → 1 ≤ j → j ≤ itemCount s → changed old (item s) j ≡ true → marked marks j ≡ true
-  changed-named j l u c = N h old U count .exact free j l u ∙ own-covered (familyOf (h .code)) (changed old (item s)) (itemCount s) j l u c
+  changed-named = none-left-out _ _ _ _ _ (N h old U count) free
 
   -- after a reload no item is changed
   pub none-changed : (j : ℕ) → 1 ≤ j → j ≤ itemCount s → changed old (reloaded marks old (item s)) j ≡ false
@@ -47,11 +46,10 @@ module _ (keys s f marks : List ℕ) (N : NameClaim keys s f marks) (h : Head) (
 module _ (keys s f out : List ℕ) (b : Bytes keys) (e : reportRefusal keys s f (length out) ≡ none) (h : Head) (old : ℕ → List ℕ) (U : Unaltered (keysIn keys) h old f)
     (count : h .count ≡ itemCount s) where
   R : Reportable keys s f (length out)
-  R = reportable keys s f (length out) none (sym e) refl
+  R = passed keys s f out b e
 
   N : NameClaim keys s f (reportWrites keys s f out)
-  unfolding reportWrites
-  N = name-claim keys s f (length out) b R _ _ (sym (given none (reportRefusal keys s f (length out)) (sym e) _ _ refl))
+  N = report-names keys s f out b e
 
   -- where no more than the limit changed, the list is the changed ones (demand 3)
   pub few-named : NoneCancels keys s h old → countUpTo (changed old (item s)) (itemCount s) ≤ familyOf (h .code) .limit
@@ -80,11 +78,7 @@ module _ (keys s f out : List ℕ) (b : Bytes keys) (e : reportRefusal keys s f 
 
       -- and the report says "intact"
       pub reload-intact : reportAnswer keys s′ f out′ ≡ Intact
-      unfolding reportAnswer reportWrites reportNamed
       reload-intact =
-          let p = sym reload-passes in
-          claim keys s′ f (length out′) b (reportable keys s′ f (length out′) none p refl) (reportWrites keys s′ f out′) _ (reportNamed keys s′ f out′) (reportAnswer keys s′ f out′)
-          (sym (given none (reportRefusal keys s′ f (length out′)) p _ _ refl)) (sym (given none (reportRefusal keys s′ f (length out′)) p _ _ refl))
-          (sym (given none (reportRefusal keys s′ f (length out′)) p _ _ refl)) h old U (count ∙ sym as-many) .0
+          report-detects keys s′ f out′ b reload-passes h old U (count ∙ sym as-many) .0
           .intact (λ i c. not-both (changed old (item s′) (c .at)) (c .changes) (unchanged (c .at) (c .at-low) (c .at-high)))
           .1 (count-none (changed old (item s′)) (itemCount s′) (λ j l u t. not-both (changed old (item s′) j) t (unchanged j l u)))
