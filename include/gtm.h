@@ -91,7 +91,10 @@ uint64_t gtm_verify(const uint8_t *keys, size_t keys_len, const uint8_t *shelf, 
  * is named exactly when every row through it holds an altered card: all altered cards are named and, where more than d were altered, perhaps
  * others. With the same exception, once every card named is reloaded from a good copy the next report is intact. And at sizes 1 to 4 the rows
  * tell how many cards were altered: with that exception d + 1 disagree exactly when one was, and 2 d + 1 exactly when two were; whatever
- * cancels out, more than k d + 1 disagree only when more than k were. */
+ * cancels out, more than k d + 1 disagree only when more than k were.
+ *
+ * Against any sheet, from one report to another with the same keys, the number of rows moves by at most the rows that hold a card altered in
+ * between, whatever cancels out: at sizes 1 to 4 by at most d + 1 for one card, and k d + 1 for k. */
 uint64_t gtm_report(const uint8_t *keys, size_t keys_len, const uint8_t *shelf, size_t shelf_len, const uint8_t *sheet,
                     size_t sheet_len, uint8_t *marks, size_t marks_len);
 

@@ -7,8 +7,9 @@
  * that may not be touched, in front of it or behind it. Compared are the result, every byte of the lent buffer, the
  * bytes around it, and that no input was changed. What both give is held against the requirements too: a card replaced is
  * the shelf tagged afresh, a report names the cards that demand 3 and request 2.13 say and counts as many rows as request
- * 2.2 says, and once these cards are reloaded the next report is intact. A case depends on the seed and its own number
- * alone, so that a third argument runs a single case again. */
+ * 2.2 says, and once these cards are reloaded the next report is intact; and against any sheet that is not refused, the
+ * number of rows moves no further than request 2.14 says as cards are altered one by one. A case depends on the seed and
+ * its own number alone, so that a third argument runs a single case again. */
 #define _DEFAULT_SOURCE
 #include "gtm.h"
 #include "inputs.h"
@@ -223,12 +224,14 @@ static unsigned long turned[4][4];                          /* and cards of repo
 static unsigned long premises[4][2];                        /* and reports in which no row cancels, and in which one does */
 static unsigned long wrong_codes[SHEET_VERSIONS + 1][256];  /* refused: bytes that are no code, said to Tag, and by sheets of each version */
 static unsigned long recoded;                               /* done: the code of another size with as many tags */
+static unsigned long moves[3];                              /* of the number of rows, as a card was altered: down, none, up */
 static unsigned long unseen[2];                             /* added and withdrawn under version 3 with a code of zero: no row shows them */
 
 /* What was seen of each size. The first four are the calls that were done. */
-enum { NO = 4, YES, AFRESH, CANCELS, OTHERS_NAMED, RELOADED, NO_CARD, FULL, ONE_ABOVE, FAR_ABOVE, FAR_CODE, OF_SIZE };
+enum { NO = 4, YES, AFRESH, CANCELS, OTHERS_NAMED, RELOADED, DRIFTED, DRIFTED_OTHER, NO_CARD, FULL, ONE_ABOVE, FAR_ABOVE, FAR_CODE, OF_SIZE };
 static const char *const of_size_names[OF_SIZE] = {"tagged", "verified", "reported", "replaced", "no", "yes", "replaced as tagged afresh",
-                                                   "a row cancels", "others named too", "reloaded", "count 0", "full",
+                                                   "a row cancels", "others named too", "reloaded", "drifted", "drifted against another sheet",
+                                                   "count 0", "full",
                                                    "one card too many", "far too many", "code far above"};
 static unsigned long of_size[SIZES][OF_SIZE];
 
@@ -341,6 +344,7 @@ static uint8_t differ[MOST_CARDS + 1], moved[MOST_CARDS + 1][16];
 
 static void compare_cards(void)
 {
+    memset(differ, 0, sizeof differ);
     for (unsigned j = 1; j <= cards.count; j++) {
         uint8_t code[16];
         differ[j] = tagged.len[j] != cards.len[j] || memcmp(tagged.card[j], cards.card[j], cards.len[j]) != 0;
@@ -400,13 +404,21 @@ static void check_row_count(long rows, unsigned changes, int premise)
         differs("the rows where so many changed", (unsigned long)rows, changes);
 }
 
-/* Whether a row holds a changed card. */
-static int holds_changed(unsigned row)
+/* Whether a row holds one of a set of cards. */
+static int holds_one(const struct family *f, const uint8_t set[MOST_CARDS + 1], unsigned row)
 {
-    for (unsigned j = 1; j <= cards.count; j++)
-        if (differ[j] && cards.family->on[row][j])
+    for (unsigned j = 1; j <= f->cards; j++)
+        if (set[j] && f->on[row][j])
             return 1;
     return 0;
+}
+
+static unsigned rows_holding(const struct family *f, const uint8_t set[MOST_CARDS + 1])
+{
+    unsigned rows = 0;
+    for (unsigned row = 1; row <= f->rows; row++)
+        rows += (unsigned)holds_one(f, set, row);
+    return rows;
 }
 
 /* Document 02, 2.13, against the unaltered sheet: each row through a named card holds a changed one; where no row cancels, every card of which
@@ -417,7 +429,7 @@ static void check_list(int premise)
     unsigned others = 0;
     memset(covered, 1, sizeof covered);
     for (unsigned row = 1; row <= cards.family->rows; row++)
-        if (!holds_changed(row))
+        if (!holds_one(cards.family, differ, row))
             for (unsigned j = 1; j <= cards.count; j++)
                 covered[j] &= !cards.family->on[row][j];
     for (unsigned j = 1; j <= cards.count; j++) {
@@ -485,10 +497,87 @@ static void check_detection(struct result r)
         check_reload();
 }
 
+/* Alters card j where it stands in the shelf: a bit of it, or it is withdrawn, or at a vacant place added. Returns 0 where there is no room. */
+static int alter_in_shelf(unsigned j)
+{
+    uint8_t *at = shelf.bytes + (shelf.bytes[4] == 1 ? 7 : 11);
+    for (; j > 1; j--)
+        at += 2 + at[0] * 256u + at[1];
+    size_t len = at[0] * 256u + at[1], after = len == 0 ? 1 + below(40) : one_in(4) ? 0 : len;
+    uint8_t *card = at + 2, *end = shelf.bytes + shelf.len;
+    if (after == len) {
+        flip(card, len);
+        return 1;
+    }
+    if (shelf.len - len + after > 65536)
+        return 0;
+    memmove(card + after, card + len, (size_t)(end - card) - len);
+    fill(card, after);
+    put_two(at, (unsigned)after);
+    shelf.len = shelf.len - len + after;
+    return 1;
+}
+
+/* The rows that the library counts for the shelf as it is by now; nothing but the cards moved, so that it is not refused. */
+static unsigned rows_by_now(void)
+{
+    lend(&shelf);
+    lend(&out);
+    uint64_t r = gtm_report(keys.lent, keys.len, shelf.lent, shelf.len, sheet.lent, sheet.len, out.lent, out.len);
+    if (gtm_number(r) != 0)
+        differs("the report of a shelf with a card altered", gtm_number(r), 0);
+    check_part(&shelf);
+    return gtm_rows(r);
+}
+
+/* The number of rows by now, which is at most so many away from what it was. */
+static unsigned check_apart(const char *what, unsigned before, unsigned most)
+{
+    unsigned rows = rows_by_now();
+    if (before > rows + most || rows > before + most)
+        differs(what, before, rows);
+    moves[rows < before ? 0 : rows == before ? 1 : 2]++;
+    return rows;
+}
+
+/* Document 02, 2.14, of any sheet: as cards are altered one by one, the number of rows moves each time by at most the rows through that card,
+ * d + 1 on a plane; and altogether by at most the rows that hold one of them, on a plane k d + 1 for k of them. Some cards are put back. */
+static void check_drift(const struct family *f, unsigned first, int honest)
+{
+    static uint8_t altered[MOST_CARDS + 1], alone[MOST_CARDS + 1], kept[ROOM];
+    unsigned rows = first, k = 0;
+    memset(altered, 0, sizeof altered);
+    for (unsigned steps = 1 + below(4); steps != 0; steps--) {
+        unsigned j = 1 + below(second_count(shelf.bytes));
+        size_t len = shelf.len;
+        memcpy(kept, shelf.bytes, len);
+        if (!alter_in_shelf(j))
+            continue;
+        k += !altered[j];
+        memset(alone, 0, sizeof alone);
+        altered[j] = alone[j] = 1;
+        unsigned through = rows_holding(f, alone), holding = rows_holding(f, altered);
+        if (f < families + PLANES && (through != f->limit + 1 || holding > k * f->limit + 1))
+            differs("the rows of a plane that hold a card", through, holding);
+        unsigned before = rows;
+        rows = check_apart("the rows before and after a card was altered", rows, through);
+        if (first > rows + holding || rows > first + holding)
+            differs("the rows before and after some cards were altered", first, rows);
+        if (one_in(2)) {
+            memcpy(shelf.bytes, kept, len);
+            shelf.len = len;
+            if (check_apart("the rows before and after a card was put back", rows, through) != before)
+                differs("the rows of the same shelf", before, rows);
+            rows = before;
+        }
+    }
+    of(f)[honest ? DRIFTED : DRIFTED_OTHER]++;
+}
+
 /* ---- The listed cases ---- */
 
 enum about { SHELF_CUT, SHELF_LABEL, SHEET_CUT, SHEET_LABEL, SHEET_LENGTH, LENT, TAG_CODE, SHEET_CODE, COUNTED, CHANGED, CANCELLED, HIDDEN,
-             NUMBERS, NUMBERS_AND_SEAL, NUMBERS_AND_COUNT, NUMBERS_AND_ROOM };
+             STRANGE, NUMBERS, NUMBERS_AND_SEAL, NUMBERS_AND_COUNT, NUMBERS_AND_ROOM };
 
 /* A call on files of those versions, and what it is about. Sizes, numbers and cards that are not given are random. */
 struct plan {
@@ -591,8 +680,8 @@ static void list_counts(const struct family *f)
     }
 }
 
-/* Up to two cards more than the limit changed, many more (40 at size 4), all but one, or all; as many as the limit, so that a row cancels; and
- * one that no row shows. */
+/* Up to two cards more than the limit changed, many more (40 at size 4), all but one, or all; as many as the limit, so that a row cancels;
+ * one that no row shows; and a sealed sheet with the tags of no shelf. */
 static void list_changed(const struct family *f, unsigned version)
 {
     const unsigned many[] = {5 * f->limit / 2, f->cards - 1, f->cards};
@@ -605,6 +694,7 @@ static void list_changed(const struct family *f, unsigned version)
         list((struct plan){VERIFY, SHELF_VERSIONS, version, CHANGED, n, .family = f});
         list((struct plan){REPORT, SHELF_VERSIONS, version, HIDDEN, n, .family = f});
     }
+    list((struct plan){REPORT, SHELF_VERSIONS, version, STRANGE, 0, .family = f});
 }
 
 /* The room for a sheet. */
@@ -803,6 +893,10 @@ static void spoil(const struct plan *p, struct chosen *c)
         turn_unseen(p->value != 0);
         c->honest = 1;
         break;
+    case STRANGE:
+        fill(sheet.bytes + sheet_head(), 16 * cards.family->tags);
+        reseal();
+        break;
     default: /* the sheet is that of the second number */
         cards.version = p->shelf_version;
         cards.number = p->numbers[0];
@@ -973,10 +1067,16 @@ static void count_places(const struct chosen *c, struct result r)
         replaced[sheet.bytes[4]][(old_card.len == 0) + 2 * (c->new_len == 0)]++;
 }
 
+/* The size of a sheet that was accepted. */
+static const struct family *size_of_sheet(void)
+{
+    return second_family(sheet.bytes[sheet.bytes[4] == 1 ? 5 : 9]);
+}
+
 /* Counts a call that was done by its size, the code told to Tag or in the sheet. */
 static void count_done(const struct chosen *c, struct result r)
 {
-    const struct family *f = second_family(c->call == TAG ? c->said : sheet.bytes[sheet.bytes[4] == 1 ? 5 : 9]);
+    const struct family *f = c->call == TAG ? second_family(c->said) : size_of_sheet();
     of(f)[c->call]++;
     if (c->call == VERIFY)
         of(f)[r.yes ? YES : NO]++;
@@ -1018,6 +1118,8 @@ static void run_case(void)
         count_listed(plan, second.number);
     if (c.honest && second.number == 0 && c.call == REPLACE)
         check_replaced(c.number);
+    if (second.number == 0 && c.call == REPORT)
+        check_drift(size_of_sheet(), second.rows, c.honest);
     if (c.honest && second.number == 0 && c.call == REPORT)
         check_detection(second);
 }
@@ -1065,10 +1167,11 @@ static int print_vacancies(void)
         missing += print_counts("reports", version, COUNT(rows), premises[version], rows);
     printf("code zero in version 3, so not seen: added %lu, withdrawn %lu\n", unseen[0], unseen[1]);
     printf("tagged: no place vacant %lu, some %lu, all %lu\n", shares[0], shares[1], shares[2]);
+    printf("rows as a card was altered: fewer %lu, as many %lu, more %lu\n", moves[0], moves[1], moves[2]);
     printf("versions that there are not: shelf 0 %lu, 3 %lu; sheet 0 %lu, 4 %lu; done: 2 said as 3 %lu, 3 as 2 %lu\n", no_shelf[0], no_shelf[3],
            no_sheet[0], no_sheet[4], said_other[3], said_other[2]);
-    const unsigned long others[] = {unseen[0], unseen[1], shares[0], shares[1], shares[2], no_shelf[0], no_shelf[3], no_sheet[0], no_sheet[4],
-                                    said_other[2], said_other[3]};
+    const unsigned long others[] = {unseen[0], unseen[1], shares[0], shares[1], shares[2], moves[0], moves[1], moves[2], no_shelf[0],
+                                    no_shelf[3], no_sheet[0], no_sheet[4], said_other[2], said_other[3]};
     for (size_t i = 0; i < COUNT(others); i++)
         missing += others[i] == 0;
     return missing;

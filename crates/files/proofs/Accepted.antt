@@ -18,7 +18,7 @@ use Rattle.stamp.specs.Front.{front, frontSize, stampFits, versionOf, stampOf, 
 use Rattle.stamp.proofs.Fronts.{front-is, number-fits, front-length, letters-back, version-back, stamp-back, begins-as-so, begins-as-yes}
 use Rattle.files.specs.TagFile.{tagLetters, newestTagFile, header, tagsAt, body, sealed, fileSize, codeOf, countOf, headOf, tagsIn, bodyOf, macOf, countFits, refuse6, refuse20, Formed, Written}
 use Rattle.incidence.proofs.Booleans.{and-left, and-right, and-both}
-use Rattle.files.proofs.Passing.{unless-true, unless-passes}
+use Rattle.files.proofs.Passing.{unless-true, unless-passes, Plain, plain-unless}
 use Rattle.files.proofs.TagFiles.{header-length}
 
 -- what is behind k elements of the first n
@@ -203,3 +203,14 @@ written-accepted key s hk W = (
   ap refuse6 (W .so) ∙ file-formed key hk (W .head) (W .tags) (W .stamped) (W .fits) (W .long),
   ap (refuse20 key) (W .so) ∙ file-sealed key hk (W .head) (W .tags) (W .stamped) (W .fits) (W .long),
 )
+
+-- ---- what passes is none
+
+pub plain6 : (s : List ℕ) → Plain (refuse6 s)
+unfolding refuse6
+plain6 s =
+    plain-unless (beginsAs tagLetters newestTagFile (tagsAt (versionOf s) + 16) s && (countFits (codeOf s) (countOf s) && eqb (length s) (fileSize (headOf s)))) 6 0 (omega arith)
+
+pub plain20 : (key s : List ℕ) → Plain (refuse20 key s)
+unfolding refuse20
+plain20 key s = plain-unless (same (macOf s) (cmac key (bodyOf s))) 20 0 (omega arith)

@@ -14,10 +14,11 @@ use Rattle.tagging.specs.Tagging.{keysIn}
 use Rattle.files.proofs.Passing.{given, kept}
 use Rattle.checks.specs.Refused.{reportRefusal}
 use Rattle.scheme.specs.Calls.{agrees, reportAnswer, reportNamed, reportRows}
-use Rattle.scheme.specs.Claim.{Claim, RowClaim}
+use Rattle.scheme.specs.Claim.{Claim, RowClaim, RowsDrift, DriftClaim}
 use Rattle.checks.specs.Passed.{Reportable}
 use Rattle.checks.proofs.Checking.{reportable, file-count}
-use Rattle.firmware.specs.Packed.{packed, packedYes, packedReport, numberIn, placeIn, yesIn, answerIn, namedIn, rowsIn, ReadsReport}
+use Rattle.firmware.specs.Packed.{packed, packedYes, packedReport, reportWord, numberIn, placeIn, yesIn, answerIn, namedIn, rowsIn, ReadsReport, DriftRead}
+use Rattle.firmware.proofs.Places.{report-number}
 
 -- ---- refusals
 
@@ -94,10 +95,12 @@ yes-back r t h = ap (λ (w : ℕ). w / 256 % 2) (sym (yes-done r t h)) ∙ go t
     go true = refl
     go false = refl
 
-pub packed-same : (r r′ : Refusal) (a a′ : Answer) (n n′ m m′ : ℕ) → r ≡ r′ → a ≡ a′ → n ≡ n′ → m ≡ m′ → packedReport r a n m ≡ packedReport r′ a′ n′ m′
-packed-same r r′ a a′ n n′ m m′ er ea en em = λ i. packedReport (er i) (ea i) (en i) (em i)
+pub word-is : (keys s f marks : List ℕ) (r : Refusal) (a : Answer) (names rows : ℕ) → r ≡ reportRefusal keys s f (length marks) → a ≡ reportAnswer keys s f marks
+    → names ≡ reportNamed keys s f marks → rows ≡ reportRows keys s f marks → packedReport r a names rows ≡ reportWord keys s f marks
+unfolding reportWord
+word-is keys s f marks r a names rows er ea en em = λ i. packedReport (er i) (ea i) (en i) (em i)
 
--- ---- demand 3 and request 2.2 as C reads them
+-- ---- demand 3 and requests 2.2 and 2.14 as C reads them
 
 -- few enough to fit their bits
 names-few : (keys s f out : List ℕ) → Reportable keys s f (length out) → numberNamed (familyOf (codeOf f)) (agrees (keysIn keys) s f) (itemCount s) < 65536
@@ -133,5 +136,22 @@ module _ (keys s f before : List ℕ) (r : Refusal) (a : Answer) (names rows w :
       let t = ordinal-tells said a (es ∙ R .answer ∙ ap (λ (x : Answer). meaning x .ordinal) (sym ea)) in
       subst (λ (x : Answer). Claim keys s f marks (namedIn w) x) (sym t) (subst (λ (x : ℕ). Claim keys s f marks x a) (en ∙ sym (R .named)) (D (z e)))
 
+  pub rows-same : rows ≡ rowsIn w
+  rows-same = em ∙ sym (report-read .disagreeing)
+
   pub rows-packed : (r .number ≡ 0 → RowClaim keys s f rows) → RowClaim keys s f (rowsIn w)
-  rows-packed D = subst (RowClaim keys s f) (em ∙ sym (report-read .disagreeing)) (D (z e))
+  rows-packed D = subst (RowClaim keys s f) rows-same (D (z e))
+
+-- the rows of any other report, read from its number
+rows-read : (keys s f marks : List ℕ) → numberIn (reportWord keys s f marks) ≡ 0
+    → (reportRefusal keys s f (length marks) .number ≡ 0) × (rowsIn (reportWord keys s f marks) ≡ reportRows keys s f marks)
+unfolding reportWord
+rows-read keys s f marks e =
+    let z = report-passes (reportRefusal keys s f (length marks)) (reportAnswer keys s f marks) (reportNamed keys s f marks) (reportRows keys s f marks) (report-number keys s f (length marks)) in
+    (z e, report-read keys s f marks _ _ _ _ _ refl refl refl refl refl z e .disagreeing)
+
+-- and so 2.14 of the two
+pub drift-read : (keys s f : List ℕ) (rows w : ℕ) → rows ≡ rowsIn w → DriftClaim keys s f rows → DriftRead keys s f w
+drift-read keys s f rows w e D t marks z =
+    let q = rows-read keys t f marks z in
+    subst (λ (x : ℕ). RowsDrift s t f x (rowsIn (reportWord keys t f marks))) e (subst (RowsDrift s t f rows) (sym (q .1)) (D t marks (q .0)))

@@ -1,4 +1,4 @@
--- Every refusal's place is at most 65,536, so it is read back whole from the number that C gets.
+-- Every refusal's number is below 256 and its place at most 65,536, so that both are read back whole from the number that C gets.
 use Rattle.fips197.proofs.Kit.{Bool, true, false, _&&_, List, [], _∷_, ℕ, zero, suc, _+_, _≤_, _<_, arith, eqb, leb, length, take, drop, length-take}
 use Rattle.blocks.specs.Block.{if_then_else_, Bytes, same}
 use Rattle.cipher.specs.Cmac.{cmac}
@@ -15,25 +15,28 @@ use Rattle.files.specs.Arguments.{refuse1, refuse2, refuse4, refuse7, refuse9}
 use Rattle.tagging.specs.Tagging.{keysIn, tagHead}
 use Rattle.checks.specs.Refused.{refuse21, refuse25, tagRefusal, verifyRefusal, reportRefusal, replaceRefusal}
 
--- ---- places
+-- ---- refusals in a list
 
--- at most b
-abbrev AllAt : ℕ → List Refusal → Type 0
-AllAt b [] = Unit {0}
-AllAt b (r ∷ rest) = (r .place ≤ b) × AllAt b rest
+-- a number below 256, and a place of at most b
+abbrev pub Whole : ℕ → Refusal → Type 0
+Whole b r = (r .number < 256) × (r .place ≤ b)
 
-first-place : (b : ℕ) (l : List Refusal) → AllAt b l → first l .place ≤ b
+abbrev AllWhole : ℕ → List Refusal → Type 0
+AllWhole b [] = Unit {0}
+AllWhole b (r ∷ rest) = Whole b r × AllWhole b rest
+
+first-whole : (b : ℕ) (l : List Refusal) → AllWhole b l → Whole b (first l)
 unfolding first
-first-place b [] h = omega arith
-first-place b (r ∷ rest) h = go (passes r) (first-place b rest (h .1))
+first-whole b [] h = (omega arith, omega arith)
+first-whole b (r ∷ rest) h = go (passes r) (first-whole b rest (h .1))
   where
-    go : (t : Bool) → first rest .place ≤ b → (if t then first rest else r) .place ≤ b
+    go : (t : Bool) → Whole b (first rest) → Whole b (if t then first rest else r)
     go true ih = ih
     go false ih = h .0
 
-unless-place : (t : Bool) (n p b : ℕ) → p ≤ b → unless t n p .place ≤ b
-unless-place true n p b h = omega arith
-unless-place false n p b h = h
+unless-whole : (t : Bool) (n p b : ℕ) → n < 256 → p ≤ b → Whole b (unless t n p)
+unless-whole true n p b l h = (omega arith, omega arith)
+unless-whole false n p b l h = (l, h)
 
 -- ---- a count is a 2-byte number
 
@@ -52,108 +55,126 @@ count-small s b =
 
 -- ---- 5
 
-items-place : (s : List ℕ) (k : ℕ) → refuseItems s k .place ≤ k
+items-whole : (s : List ℕ) (k : ℕ) → Whole k (refuseItems s k)
 unfolding refuseItems
-items-place s zero = omega arith
-items-place s (suc k) =
-    let r = items-place s k in
-    first-place (suc k) (refuseItems s k ∷ unless (itemFits s (behind s k)) 5 (suc k) ∷ []) (omega arith, (unless-place (itemFits s (behind s k)) 5 (suc k) (suc k) (omega arith), tt))
+items-whole s zero = (omega arith, omega arith)
+items-whole s (suc k) =
+    let r = items-whole s k in
+    first-whole (suc k) (refuseItems s k ∷ unless (itemFits s (behind s k)) 5 (suc k) ∷ [])
+    ((r .0, omega (arith, r .1)), (unless-whole (itemFits s (behind s k)) 5 (suc k) (suc k) (omega arith) (omega arith), tt))
 
-place5 : (s : List ℕ) → Bytes s → refuse5 s .place ≤ 65536
+whole5 : (b : ℕ) (s : List ℕ) → itemCount s < b → Whole b (refuse5 s)
 unfolding refuse5
-place5 s b =
-    let n = count-small s b in
-    let r = items-place s (itemCount s) in
-    first-place 65536 (refuseItems s (itemCount s) ∷ unless (eqb (behind s (itemCount s)) (length s)) 5 (itemCount s + 1) ∷ [])
-    (omega arith, (unless-place (eqb (behind s (itemCount s)) (length s)) 5 (itemCount s + 1) 65536 (omega arith), tt))
+whole5 b s few =
+    let r = items-whole s (itemCount s) in
+    first-whole b (refuseItems s (itemCount s) ∷ unless (eqb (behind s (itemCount s)) (length s)) 5 (itemCount s + 1) ∷ [])
+    ((r .0, omega (arith, r .1)), (unless-whole (eqb (behind s (itemCount s)) (length s)) 5 (itemCount s + 1) b (omega arith) (omega arith), tt))
 
 -- ---- the others
 
-small : (t : Bool) (n : ℕ) → unless t n 0 .place ≤ 65536
-small t n = unless-place t n 0 65536 (omega arith)
+module _ (b : ℕ) where
+  small : (t : Bool) (n : ℕ) → n < 256 → Whole b (unless t n 0)
+  small t n l = unless-whole t n 0 b l (omega arith)
 
-place1 : (n : ℕ) → refuse1 n .place ≤ 65536
-unfolding refuse1
-place1 n = small (eqb n 48) 1
+  whole1 : (n : ℕ) → Whole b (refuse1 n)
+  unfolding refuse1
+  whole1 n = small (eqb n 48) 1 (omega arith)
 
-place2 : (c : ℕ) → refuse2 c .place ≤ 65536
-unfolding refuse2
-place2 c = small (known c) 2
+  whole2 : (c : ℕ) → Whole b (refuse2 c)
+  unfolding refuse2
+  whole2 c = small (known c) 2 (omega arith)
 
-place3 : (s : List ℕ) → refuse3 s .place ≤ 65536
-unfolding refuse3
-place3 s = small (beginsAs messageLetters newestMessage (itemsAt (versionOf s)) s && leb (length s) 65536) 3
+  whole3 : (s : List ℕ) → Whole b (refuse3 s)
+  unfolding refuse3
+  whole3 s = small (beginsAs messageLetters newestMessage (itemsAt (versionOf s)) s && leb (length s) 65536) 3 (omega arith)
 
-place4 : (c n : ℕ) → refuse4 c n .place ≤ 65536
-unfolding refuse4
-place4 c n = small (inside (familyOf c .items) n) 4
+  whole4 : (c n : ℕ) → Whole b (refuse4 c n)
+  unfolding refuse4
+  whole4 c n = small (inside (familyOf c .items) n) 4 (omega arith)
 
-place6 : (f : List ℕ) → refuse6 f .place ≤ 65536
-unfolding refuse6
-place6 f =
-    small (beginsAs tagLetters newestTagFile (tagsAt (versionOf f) + 16) f && (countFits (codeOf f) (countOf f) && eqb (length f) (fileSize (headOf f)))) 6
+  whole6 : (f : List ℕ) → Whole b (refuse6 f)
+  unfolding refuse6
+  whole6 f =
+      small (beginsAs tagLetters newestTagFile (tagsAt (versionOf f) + 16) f && (countFits (codeOf f) (countOf f) && eqb (length f) (fileSize (headOf f)))) 6 (omega arith)
 
-place7 : (size room : ℕ) → refuse7 size room .place ≤ 65536
-unfolding refuse7
-place7 size room = small (leb size room) 7
+  whole7 : (size room : ℕ) → Whole b (refuse7 size room)
+  unfolding refuse7
+  whole7 size room = small (leb size room) 7 (omega arith)
 
-place8 : (n j : ℕ) → refuse8 n j .place ≤ 65536
-unfolding refuse8
-place8 n j = small (leb 1 j && leb j n) 8
+  whole8 : (n j : ℕ) → Whole b (refuse8 n j)
+  unfolding refuse8
+  whole8 n j = small (leb 1 j && leb j n) 8 (omega arith)
 
-place9 : (long p : ℕ) → p ≤ 2 → refuse9 long p .place ≤ 65536
-unfolding refuse9
-place9 long p h = unless-place (leb long 1024) 9 p 65536 (omega arith)
+  whole9 : (long p : ℕ) → p ≤ b → Whole b (refuse9 long p)
+  unfolding refuse9
+  whole9 long p h = unless-whole (leb long 1024) 9 p b (omega arith) h
 
-place20 : (key f : List ℕ) → refuse20 key f .place ≤ 65536
-unfolding refuse20
-place20 key f = small (same (macOf f) (cmac key (bodyOf f))) 20
+  whole20 : (key f : List ℕ) → Whole b (refuse20 key f)
+  unfolding refuse20
+  whole20 key f = small (same (macOf f) (cmac key (bodyOf f))) 20 (omega arith)
 
-place21 : (s f : List ℕ) → refuse21 s f .place ≤ 65536
-unfolding refuse21
-place21 s f = small (eqb (itemCount s) (countOf f)) 21
+  whole21 : (s f : List ℕ) → Whole b (refuse21 s f)
+  unfolding refuse21
+  whole21 s f = small (eqb (itemCount s) (countOf f)) 21 (omega arith)
 
-place25 : (s f : List ℕ) → refuse25 s f .place ≤ 65536
-unfolding refuse25
-place25 s f = small (eqb (stampOf s .number) (stampOf f .number)) 25
+  whole25 : (s f : List ℕ) → Whole b (refuse25 s f)
+  unfolding refuse25
+  whole25 s f = small (eqb (stampOf s .number) (stampOf f .number)) 25 (omega arith)
 
--- ---- each call
+  -- ---- each call
+
+  module _ (keys s : List ℕ) (few : itemCount s < b) where
+    tag-within : (c room : ℕ) → Whole b (tagRefusal keys c s room)
+    unfolding tagRefusal
+    tag-within c room =
+        first-whole b (refuse1 (length keys) ∷ refuse2 c ∷ refuse3 s ∷ refuse4 c (itemCount s) ∷ refuse5 s ∷ refuse7 (fileSize (tagHead c s)) room ∷ [])
+        (whole1 (length keys), (whole2 c, (whole3 s, (whole4 c (itemCount s), (whole5 b s few, (whole7 (fileSize (tagHead c s)) room, tt))))))
+
+    verify-within : (f : List ℕ) → Whole b (verifyRefusal keys s f)
+    unfolding verifyRefusal
+    verify-within f =
+        first-whole b (refuse1 (length keys) ∷ refuse3 s ∷ refuse5 s ∷ refuse6 f ∷ refuse20 (keysIn keys .seal) f ∷ refuse21 s f ∷ refuse25 s f ∷ [])
+        (whole1 (length keys), (whole3 s, (whole5 b s few, (whole6 f, (whole20 (keysIn keys .seal) f, (whole21 s f, (whole25 s f, tt)))))))
+
+    report-within : (f : List ℕ) (room : ℕ) → Whole b (reportRefusal keys s f room)
+    unfolding reportRefusal
+    report-within f room = first-whole b (verifyRefusal keys s f ∷ refuse7 (itemCount s) room ∷ []) (verify-within f, (whole7 (itemCount s) room, tt))
+
+-- ---- what C reads
 
 module _ (keys s : List ℕ) (bytes : Bytes s) where
-  pub tag-place : (c room : ℕ) → tagRefusal keys c s room .place ≤ 65536
-  unfolding tagRefusal
-  tag-place c room =
-      first-place 65536 (refuse1 (length keys) ∷ refuse2 c ∷ refuse3 s ∷ refuse4 c (itemCount s) ∷ refuse5 s ∷ refuse7 (fileSize (tagHead c s)) room ∷ [])
-      (place1 (length keys), (place2 c, (place3 s, (place4 c (itemCount s), (place5 s bytes, (place7 (fileSize (tagHead c s)) room, tt))))))
+  pub tag-whole : (c room : ℕ) → Whole 65536 (tagRefusal keys c s room)
+  tag-whole = tag-within 65536 keys s (count-small s bytes)
 
-  pub verify-place : (f : List ℕ) → verifyRefusal keys s f .place ≤ 65536
-  unfolding verifyRefusal
-  verify-place f =
-      first-place 65536 (refuse1 (length keys) ∷ refuse3 s ∷ refuse5 s ∷ refuse6 f ∷ refuse20 (keysIn keys .seal) f ∷ refuse21 s f ∷ refuse25 s f ∷ [])
-      (place1 (length keys), (place3 s, (place5 s bytes, (place6 f, (place20 (keysIn keys .seal) f, (place21 s f, (place25 s f, tt)))))))
+  pub verify-whole : (f : List ℕ) → Whole 65536 (verifyRefusal keys s f)
+  verify-whole = verify-within 65536 keys s (count-small s bytes)
 
-  pub report-place : (f : List ℕ) (room : ℕ) → reportRefusal keys s f room .place ≤ 65536
-  unfolding reportRefusal
-  report-place f room = first-place 65536 (verifyRefusal keys s f ∷ refuse7 (itemCount s) room ∷ []) (verify-place f, (place7 (itemCount s) room, tt))
+  pub report-whole : (f : List ℕ) (room : ℕ) → Whole 65536 (reportRefusal keys s f room)
+  report-whole = report-within 65536 keys s (count-small s bytes)
 
-pub replace-place : (keys f : List ℕ) (j : ℕ) (old new : List ℕ) (room : ℕ) → replaceRefusal keys f j old new room .place ≤ 65536
+pub replace-whole : (keys f : List ℕ) (j : ℕ) (old new : List ℕ) (room : ℕ) → Whole 65536 (replaceRefusal keys f j old new room)
 unfolding replaceRefusal
-replace-place keys f j old new room =
-    first-place 65536
+replace-whole keys f j old new room =
+    let b : ℕ = 65536 in
+    first-whole b
     (refuse1 (length keys) ∷ refuse6 f ∷ refuse20 (keysIn keys .seal) f ∷ refuse8 (countOf f) j ∷ refuse9 (length old) 1 ∷ refuse9 (length new) 2
     ∷ refuse7 (fileSize (headOf f)) room ∷ []) (
-      place1 (length keys),
+      whole1 b (length keys),
       (
-        place6 f,
+        whole6 b f,
         (
-          place20 (keysIn keys .seal) f,
+          whole20 b (keysIn keys .seal) f,
           (
-            place8 (countOf f) j,
+            whole8 b (countOf f) j,
             (
-              place9 (length old) 1 (omega arith),
-              (place9 (length new) 2 (omega arith), (place7 (fileSize (headOf f)) room, tt)),
+              whole9 b (length old) 1 (omega arith),
+              (whole9 b (length new) 2 (omega arith), (whole7 b (fileSize (headOf f)) room, tt)),
             ),
           ),
         ),
       ),
     )
+
+-- the number by itself, of any lists
+pub report-number : (keys s f : List ℕ) (room : ℕ) → reportRefusal keys s f room .number < 256
+report-number keys s f room = report-within (itemCount s + 1) keys s (omega arith) f room .0

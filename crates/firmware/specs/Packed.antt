@@ -3,13 +3,18 @@
 -- (intact 0, named 1, beyond 2), the number named in bits 16 to 31 and the disagreeing rows in bits 32 to 47. Assumes nothing.
 use mathlib.Core.Path.{_≡_}
 use mathlib.Core.Bool.{Bool}
+use mathlib.Core.List.{List}
 use Prim.Native.Nat.{ℕ, _+_, _*_, _/_, _%_}
+use lib.ListN.{length}
 use Rattle.blocks.specs.Block.{if_then_else_}
 use Rattle.incidence.specs.Count.{indicator}
 use Rattle.incidence.specs.Report.{meaning}
 use Rattle.incidence.specs.declared.Answer.{Answer}
 use Rattle.files.specs.declared.Refusal.{Refusal}
 use Rattle.files.specs.Refusals.{passes}
+use Rattle.checks.specs.Refused.{reportRefusal}
+use Rattle.scheme.specs.Calls.{reportAnswer, reportNamed, reportRows}
+use Rattle.scheme.specs.Claim.{RowsDrift}
 
 -- a refusal; 0 where there is none
 unfoldable pub packed : Refusal → ℕ
@@ -22,6 +27,11 @@ packedYes r same = if passes r then 256 * indicator same else packed r
 -- what Report says
 unfoldable pub packedReport : Refusal → Answer → ℕ → ℕ → ℕ
 packedReport r said names rows = if passes r then 256 * meaning said .ordinal + 65536 * (names % 65536) + 4294967296 * (rows % 65536) else packed r
+
+-- the number that a report returns
+unfoldable pub reportWord : List ℕ → List ℕ → List ℕ → List ℕ → ℕ
+reportWord keys s f marks =
+    packedReport (reportRefusal keys s f (length marks)) (reportAnswer keys s f marks) (reportNamed keys s f marks) (reportRows keys s f marks)
 
 -- ---- what C reads from it
 
@@ -48,3 +58,7 @@ pub record ReadsReport (w : ℕ) (said : Answer) (names rows : ℕ) : Type 0 whe
   pub answer : answerIn w ≡ meaning said .ordinal
   pub named : namedIn w ≡ names
   pub disagreeing : rowsIn w ≡ rows
+
+-- Document 02, 2.14, of the number w that a report on s returned, beside that of every other report with these keys against f
+abbrev pub DriftRead : List ℕ → List ℕ → List ℕ → ℕ → Type 0
+DriftRead keys s f w = (t marks : List ℕ) → numberIn (reportWord keys t f marks) ≡ 0 → RowsDrift s t f (rowsIn w) (rowsIn (reportWord keys t f marks))

@@ -57,7 +57,14 @@ fn usage_of_reports(fd: i32) {
         fd,
         b"Rows that disagree, at SIZE 1 to 4: limit + 1 for one altered card, 2 x limit + 1 for two, at most k x limit + 1\n",
     );
-    io::write_all(fd, b"for k; fewer where changes cancel out.\n");
+    io::write_all(
+        fd,
+        b"for k; fewer where changes cancel out. Against any one sheet, k cards altered between two reports move the number of\n",
+    );
+    io::write_all(
+        fd,
+        b"rows by at most k x limit + 1, and at the other sizes by at most the rows through these cards.\n",
+    );
 }
 
 // The lines of the commands that take keys.

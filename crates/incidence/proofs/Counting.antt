@@ -1,6 +1,7 @@
 -- The laws of `count`, `any` and `all`.
 use Rattle.fips197.proofs.Kit.{_≡_, refl, sym, ap, ap₂, _∙_, subst, Bool, true, false, not, _&&_, _||_, true≢false, _⊎_, inl, inr, ℕ, zero, suc, _+_, _-_, _≤_, _<_, arith, ltb, leb, ltb-true, ltb-false, leb-true, le-leb}
 use Rattle.incidence.specs.Count.{indicator, countUpTo, anyUpTo, allUpTo, inside}
+use Rattle.incidence.specs.Drift.{ApartAtMost}
 use Rattle.incidence.proofs.Booleans.{and-left, and-right, and-both, or-cases, or-first, or-second, not-passed}
 
 -- what is at most n + 1 is n + 1 or at most n
@@ -72,6 +73,18 @@ bit-both false false = refl
 pub count-both : (p q : ℕ → Bool) (n : ℕ) → countUpTo (λ i. p i || q i) n + countUpTo (λ i. p i && q i) n ≡ countUpTo p n + countUpTo q n
 count-both p q zero = refl
 count-both p q (suc n) = omega (arith, bit-both (p (suc n)) (q (suc n)), count-both p q n)
+
+-- where two tests differ on no number but those that pass a third, so many of these at most are what more pass the one than the other
+count-beyond : (p q r : ℕ → Bool) (n : ℕ) → ((i : ℕ) → 1 ≤ i → i ≤ n → r i ≡ false → p i ≡ q i) → countUpTo p n ≤ countUpTo q n + countUpTo r n
+count-beyond p q r n h =
+    omega (arith, count-both q r n, count-mono p (λ i. q i || r i) n (λ i l u t. go i (h i l u) t (r i) refl))
+  where
+    go : (i : ℕ) → (r i ≡ false → p i ≡ q i) → p i ≡ true → (b : Bool) → r i ≡ b → q i || r i ≡ true
+    go i e t true x = or-second (q i) x
+    go i e t false x = or-first (r i) (sym (e x) ∙ t)
+
+pub count-apart : (p q r : ℕ → Bool) (n : ℕ) → ((i : ℕ) → 1 ≤ i → i ≤ n → r i ≡ false → p i ≡ q i) → ApartAtMost (countUpTo r n) (countUpTo p n) (countUpTo q n)
+count-apart p q r n h = (count-beyond p q r n h, count-beyond q p r n (λ i l u e. sym (h i l u e)))
 
 count-never : (n : ℕ) → countUpTo (λ i. false) n ≡ 0
 count-never zero = refl

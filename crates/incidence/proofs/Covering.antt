@@ -3,12 +3,12 @@
 -- covered by it, and no other is where the family is disjunct enough (000, section 2.1).
 use Rattle.fips197.proofs.Kit.{_≡_, refl, ap, subst, Bool, true, false, not, _&&_, _||_, _⊎_, inl, inr, ℕ, zero, suc, _≤_, _<_, arith, leb, le-leb, lt-leb}
 use Rattle.incidence.specs.Count.{countUpTo}
-use Rattle.incidence.specs.Family.{Family, holdsOne, covered, Separates, Disjunct}
+use Rattle.incidence.specs.Family.{Family, holdsOne, rowsHolding, covered, Separates, Disjunct}
 use Rattle.incidence.specs.Report.{cleared, named}
 use Rattle.incidence.specs.Detection.{QuietRowsAgree, ChangedRowsDisagree}
 use Rattle.incidence.specs.Naming.{NamesCovered}
 use Rattle.incidence.proofs.Booleans.{and-left, and-right, and-both, not-both, not-passed, not-failed, both-ways}
-use Rattle.incidence.proofs.Counting.{Found, last-or, any-found, any-some, any-none, any-ext, all-each, each-of-all, count-mono, count-some}
+use Rattle.incidence.proofs.Counting.{Found, last-or, any-found, any-some, any-none, any-ext, all-each, each-of-all, count-mono, count-none, count-some}
 
 -- ---- rows that hold an item of a set
 
@@ -25,6 +25,9 @@ module _ (F : Family) (set : ℕ → Bool) (n i : ℕ) where
   -- an empty set is held by no row
   pub holds-none : countUpTo set n ≡ 0 → holdsOne F set n i ≡ false
   holds-none z = holds-no-item (λ j l u c o. let p : 0 < countUpTo set n = count-some set n j l u c in omega arith)
+
+pub none-held : (F : Family) (set : ℕ → Bool) (n : ℕ) → countUpTo set n ≡ 0 → rowsHolding F set n ≡ 0
+none-held F set n z = count-none (holdsOne F set n) (F .rows) (λ i l u t. not-both (holdsOne F set n i) t (holds-none F set n i z))
 
 -- sets of the same items are held alike
 pub holds-same : (F : Family) (set other : ℕ → Bool) (n i : ℕ) → ((j : ℕ) → 1 ≤ j → j ≤ n → set j ≡ other j) → holdsOne F set n i ≡ holdsOne F other n i

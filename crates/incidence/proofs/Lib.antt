@@ -12,4 +12,5 @@ pub mod Rejects
 pub mod Rowwise
 pub mod Walking
 pub mod Tallying
+pub mod Drifting
 pub mod Differences

@@ -1,6 +1,7 @@
 -- What demand 3, as `Detects` states it, rules out by itself, whatever the family and the code: a report that names every item, one that
--- names none, and one that always says "beyond". What request 2.2, as `Tallies` states it, tells the other way round, and what request 2.13,
--- as `NamesCovered` states it, rules out. And how the three statements pass to what is equal to them or asks for more.
+-- names none, and one that always says "beyond". What request 2.2, as `Tallies` states it, tells the other way round, what request 2.13, as
+-- `NamesCovered` states it, rules out, and what a jump tells by request 2.14, as `Drifts` states it. And how the four statements pass to what
+-- is equal to them or asks for more.
 use Rattle.fips197.proofs.Kit.{_≡_, refl, sym, _∙_, Bool, true, false, ℕ, _+_, _-_, _*_, _/_, _≤_, _<_, arith}
 use native.Mathlib.Nat.{lt-of-not-le}
 use Rattle.incidence.specs.Count.{countUpTo}
@@ -8,6 +9,7 @@ use Rattle.incidence.specs.Family.{Family, holdsOne}
 use Rattle.incidence.specs.Detection.{Detects}
 use Rattle.incidence.specs.Tally.{Tallies}
 use Rattle.incidence.specs.Naming.{NamesCovered}
+use Rattle.incidence.specs.Drift.{ApartAtMost, Drifts}
 use Rattle.incidence.specs.declared.Answer.{Answer}
 use Rattle.incidence.specs.declared.Answer.the-variants.{Intact, Beyond}
 use Rattle.incidence.proofs.Booleans.{not-both}
@@ -65,6 +67,12 @@ module _ (F : Family) (n : ℕ) (C : Type 0) (changed marked : ℕ → Bool) (N 
   pub not-by-some-row : (i j : ℕ) → 1 ≤ i → i ≤ F .rows → 1 ≤ j → j ≤ n → F .on i j ≡ true → holdsOne F changed n i ≡ false → marked j ≡ true → ⊥
   not-by-some-row i j a b l u o free t = not-both (holdsOne F changed n i) (covered-row F changed n j (N .within j l u t) i a b o) free
 
+-- ---- what a jump of the number of rows tells (document 02, 2.14): numbers more than kd + 1 apart are those of more than k items that differ
+
+pub jump-tells : (F : Family) (n : ℕ) (C : Type 0) (differs : ℕ → Bool) (rows others : ℕ) → Drifts F n C differs rows others → C → (k : ℕ)
+    → (ApartAtMost (k * F .limit + 1) rows others → ⊥) → k < countUpTo differs n
+jump-tells F n C differs rows others D c k jump = lt-of-not-le (λ (l : countUpTo differs n ≤ k). jump (D .several-on-plane c k l))
+
 -- ---- passing on
 
 module _ (d n : ℕ) (C E : Type 0) (changed marked other : ℕ → Bool) (said : Answer) where
@@ -87,3 +95,7 @@ tallies-as d n C E changed rows f T = record { none = T .none; one = λ x. T .on
 pub names-covered-as : (F : Family) (n : ℕ) (C E : Type 0) (changed marked other : ℕ → Bool) → (E → C) → ((j : ℕ) → 1 ≤ j → j ≤ n → other j ≡ marked j)
     → NamesCovered F n C changed marked → NamesCovered F n E changed other
 names-covered-as F n C E changed marked other f same N = record { exact = λ x j l u. same j l u ∙ N .exact (f x) j l u; within = λ j l u t. N .within j l u (sym (same j l u) ∙ t) }
+
+-- and of request 2.14
+pub drifts-as : (F : Family) (n : ℕ) (C E : Type 0) (differs : ℕ → Bool) (rows others : ℕ) → (E → C) → Drifts F n C differs rows others → Drifts F n E differs rows others
+drifts-as F n C E differs rows others f D = record { one-on-plane = λ x. D .one-on-plane (f x); one = D .one; several = D .several; several-on-plane = λ x. D .several-on-plane (f x) }

@@ -119,11 +119,11 @@ module _ (F : Family) (value : ℕ → List ℕ) (v : Values value) (n : ℕ) wh
       sum-ext (F .on i) (λ j. parity (λ a. F .on a j) (F .made i)) value value n (λ j a b. L .adds-up i j l u e a (omega arith)) (λ j a b t. refl)
       ∙ sum-parity (F .on) value n (F .made i) v
 
-  module _ (other : ℕ → List ℕ) where
-    -- a row none of whose places changed keeps its sum
-    pub rowSum-same : (i : ℕ) → ((j : ℕ) → 1 ≤ j → j ≤ n → F .on i j ≡ true → value j ≡ other j) → rowSum F value n i ≡ rowSum F other n i
-    unfolding rowSum
-    rowSum-same i h = sum-ext (F .on i) (F .on i) value other n (λ j l u. refl) h
+-- a row none of whose places changed keeps its sum
+pub rowSum-same : (F : Family) (value other : ℕ → List ℕ) (n i : ℕ) → ((j : ℕ) → 1 ≤ j → j ≤ n → F .on i j ≡ true → value j ≡ other j)
+    → rowSum F value n i ≡ rowSum F other n i
+unfolding rowSum
+rowSum-same F value other n i h = sum-ext (F .on i) (F .on i) value other n (λ j l u. refl) h
 
 -- after a change of the value at place k alone, a sum that counts it is the sum before XOR both values
 pub sum-change : (p : ℕ → Bool) (value other : ℕ → List ℕ) (n k : ℕ) → Values value → Values other → 1 ≤ k → k ≤ n → p k ≡ true

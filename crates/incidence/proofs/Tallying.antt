@@ -4,13 +4,13 @@
 use Rattle.fips197.proofs.Kit.{_≡_, refl, sym, ap, _∙_, subst, Bool, true, false, not, _&&_, _||_, and-comm, and-true, _⊎_, inl, inr, ℕ, zero, suc, _+_, _-_, _*_, _/_, _≤_, _<_, mul-comm, arith, not-true}
 use native.Mathlib.Nat.{suc-mul, eq-zero-or-pos}
 use Rattle.incidence.specs.Count.{indicator, countUpTo}
-use Rattle.incidence.specs.Family.{Family, holdsOne, Projective}
+use Rattle.incidence.specs.Family.{Family, holdsOne, rowsHolding, Projective}
 use Rattle.incidence.specs.Report.{disagreeing}
 use Rattle.incidence.specs.Detection.{QuietRowsAgree, ChangedRowsDisagree}
 use Rattle.incidence.specs.Tally.{Tallies}
-use Rattle.incidence.proofs.Booleans.{and-left, and-right, and-both, and-false-r, or-false-r, or-first, not-both}
-use Rattle.incidence.proofs.Counting.{Found, last-or, found, count-ext, count-mono, count-none, count-both}
-use Rattle.incidence.proofs.Covering.{holds-item, holds-none, holds-changed}
+use Rattle.incidence.proofs.Booleans.{and-left, and-right, and-both, and-false-r, or-false-r, or-first}
+use Rattle.incidence.proofs.Counting.{Found, last-or, found, count-ext, count-mono, count-both}
+use Rattle.incidence.proofs.Covering.{holds-item, none-held, holds-changed}
 use Rattle.incidence.proofs.Pigeonhole.{takes-few}
 
 -- ---- how many pairs k items have
@@ -35,13 +35,10 @@ module _ (F : Family) (P : Projective F) (changed : ℕ → Bool) where
 
   -- the rows that hold a changed one of the items 1 to m, and those of them that hold the next item too
   abbrev held : ℕ → ℕ
-  held m = countUpTo (holdsOne F changed m) (F .rows)
+  held m = rowsHolding F changed m
 
   abbrev shared : ℕ → ℕ
   shared m = countUpTo (λ i. F .on i (suc m) && holdsOne F changed m i) (F .rows)
-
-  held-none : (m : ℕ) → countUpTo changed m ≡ 0 → held m ≡ 0
-  held-none m z = count-none (holdsOne F changed m) (F .rows) (λ i l u t. not-both (holdsOne F changed m i) t (holds-none F changed m i z))
 
   held-more : (m : ℕ) → held m ≤ held (suc m)
   held-more m = count-mono (holdsOne F changed m) (holdsOne F changed (suc m)) (F .rows) (λ i l u. or-first _)
@@ -100,8 +97,8 @@ module _ (F : Family) (P : Projective F) (changed : ℕ → Bool) where
       go rest false e = omega (arith, held-more m, rest k (omega (arith, ap indicator e)))
 
   -- k or fewer are on at most d rows each and one
-  held-most : (m : ℕ) → m ≤ F .items → (k : ℕ) → countUpTo changed m ≤ k → held m ≤ k * d + 1
-  held-most zero u k h = omega (arith, held-none zero refl)
+  pub held-most : (m : ℕ) → m ≤ F .items → (k : ℕ) → countUpTo changed m ≤ k → held m ≤ k * d + 1
+  held-most zero u k h = omega (arith, none-held F changed zero refl)
   held-most (suc m) u k h = go (held-most m (omega arith)) (changed (suc m)) refl
     where
       c : ℕ
@@ -111,7 +108,7 @@ module _ (F : Family) (P : Projective F) (changed : ℕ → Bool) where
       less e = let q : k ≡ suc (k - 1) = omega (arith, ap indicator e) in ap (λ (x : ℕ). x * d) q ∙ suc-mul (k - 1) d
 
       next : ((k : ℕ) → c ≤ k → held m ≤ k * d + 1) → changed (suc m) ≡ true → (c ≡ 0) ⊎ (0 < c) → held (suc m) ≤ k * d + 1
-      next rest e (inl z) = omega (arith, less e, adds-own m u e, held-none m z)
+      next rest e (inl z) = omega (arith, less e, adds-own m u e, none-held F changed m z)
       next rest e (inr p) =
           omega (arith, less e, adds-own m u e, shared-some m u p, rest (k - 1) (omega (arith, ap indicator e)))
 
@@ -119,31 +116,34 @@ module _ (F : Family) (P : Projective F) (changed : ℕ → Bool) where
       go rest true e = next rest e (eq-zero-or-pos c)
       go rest false e = omega (arith, adds-none m e, rest k (omega (arith, ap indicator e)))
 
+-- ---- the rows that disagree
+
+module _ (F : Family) (n : ℕ) (changed agrees : ℕ → Bool) where
+  -- no more disagree than hold a changed item
+  no-more : QuietRowsAgree F n changed agrees → disagreeing agrees (F .rows) ≤ rowsHolding F changed n
+  unfolding disagreeing
+  no-more quiet =
+      count-mono (λ r. not (agrees r)) (holdsOne F changed n) (F .rows) (λ i l u t. holds-changed F n changed agrees quiet i l u (not-true (agrees i) t))
+
+  -- and where no row cancels no fewer
+  no-fewer : ChangedRowsDisagree F n changed agrees → rowsHolding F changed n ≤ disagreeing agrees (F .rows)
+  unfolding disagreeing
+  no-fewer loud = count-mono (holdsOne F changed n) (λ r. not (agrees r)) (F .rows) (λ i l u t. ap not (loud i l u t))
+
+  pub rows-held : QuietRowsAgree F n changed agrees → ChangedRowsDisagree F n changed agrees → disagreeing agrees (F .rows) ≡ rowsHolding F changed n
+  rows-held quiet loud = omega (arith, no-more quiet, no-fewer loud)
+
 -- ---- the theorem
 
 module _ (F : Family) (P : Projective F) (n : ℕ) (fits : n ≤ F .items) (changed agrees : ℕ → Bool) (quiet : QuietRowsAgree F n changed agrees) where
-  -- no more rows disagree than hold a changed item
-  no-more : disagreeing agrees (F .rows) ≤ countUpTo (holdsOne F changed n) (F .rows)
-  unfolding disagreeing
-  no-more =
-      count-mono (λ r. not (agrees r)) (holdsOne F changed n) (F .rows) (λ i l u t. holds-changed F n changed agrees quiet i l u (not-true (agrees i) t))
-
   none : countUpTo changed n ≡ 0 → disagreeing agrees (F .rows) ≡ 0
-  none h = omega (arith, no-more, held-none F P changed n h)
+  none h = omega (arith, no-more F n changed agrees quiet, none-held F changed n h)
 
   most : (k : ℕ) → countUpTo changed n ≤ k → disagreeing agrees (F .rows) ≤ k * F .limit + 1
-  most k h = omega (arith, no-more, held-most F P changed n fits k h)
+  most k h = omega (arith, no-more F n changed agrees quiet, held-most F P changed n fits k h)
 
-  module _ (loud : ChangedRowsDisagree F n changed agrees) where
-    least : (k : ℕ) → k ≤ countUpTo changed n → k * (F .limit + 1) - k * (k - 1) / 2 ≤ disagreeing agrees (F .rows)
-    unfolding disagreeing
-    least k h =
-        omega (
-          arith,
-          count-mono (holdsOne F changed n) (λ r. not (agrees r)) (F .rows) (λ i l u t. ap not (loud i l u t)),
-          pairs-half k,
-          held-least F P changed n fits k h,
-        )
+  least : ChangedRowsDisagree F n changed agrees → (k : ℕ) → k ≤ countUpTo changed n → k * (F .limit + 1) - k * (k - 1) / 2 ≤ disagreeing agrees (F .rows)
+  least loud k h = omega (arith, no-fewer F n changed agrees loud, pairs-half k, held-least F P changed n fits k h)
 
   pub tallies : Tallies (F .limit) n (ChangedRowsDisagree F n changed agrees) changed (disagreeing agrees (F .rows))
   tallies = record {

@@ -33,9 +33,16 @@ itemsOf F i = listed (F .on i) (F .items)
 unfoldable pub tagsOf : Family → ℕ → List ℕ
 tagsOf F j = listed (λ k. F .on (F .rowOfTag k) j) (F .tags)
 
--- whether row i holds one of the items 1 to n of a set
+-- how many rows hold item j (document 02, 2.14: "the rows through that card")
+abbrev pub rowsThrough : Family → ℕ → ℕ
+rowsThrough F j = countUpTo (λ i. F .on i j) (F .rows)
+
+-- whether row i holds one of the items 1 to n of a set, and how many rows do
 abbrev pub holdsOne : Family → (ℕ → Bool) → ℕ → ℕ → Bool
 holdsOne F set n i = anyUpTo (λ j. F .on i j && set j) n
+
+abbrev pub rowsHolding : Family → (ℕ → Bool) → ℕ → ℕ
+rowsHolding F set n = countUpTo (holdsOne F set n) (F .rows)
 
 -- 000, 2.1: whether the items 1 to n of a set cover item j: each row through it holds one of them
 unfoldable pub covered : Family → (ℕ → Bool) → ℕ → ℕ → Bool
@@ -80,5 +87,5 @@ pub record Lawful (F : Family) : Type 0 where
 -- what a projective plane has besides (000, section 6.4): "a card is on d+1 rows" (document 01), and "two different places share exactly
 -- one row" (document 02, 2.2)
 pub record Projective (F : Family) : Type 0 where
-  pub weight : (j : ℕ) → 1 ≤ j → j ≤ F .items → countUpTo (λ i. F .on i j) (F .rows) ≡ F .limit + 1
+  pub weight : (j : ℕ) → 1 ≤ j → j ≤ F .items → rowsThrough F j ≡ F .limit + 1
   pub meet : (j k : ℕ) → 1 ≤ j → j ≤ F .items → 1 ≤ k → k ≤ F .items → (k ≡ j → ⊥) → countUpTo (λ i. F .on i j && F .on i k) (F .rows) ≡ 1

@@ -6,3 +6,4 @@ pub mod Report
 pub mod Detection
 pub mod Tally
 pub mod Naming
+pub mod Drift

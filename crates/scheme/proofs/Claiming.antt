@@ -5,7 +5,7 @@ use Rattle.blocks.specs.Block.{if_then_else_, Bytes, same}
 use Rattle.blocks.proofs.Xor.{same-true, same-eq}
 use Rattle.incidence.specs.Count.{countUpTo}
 use Rattle.incidence.specs.Count.{indicator}
-use Rattle.incidence.specs.Family.{Family}
+use Rattle.incidence.specs.Family.{Family, rowsHolding}
 use Rattle.incidence.specs.Sum.{rowSum}
 use Rattle.incidence.specs.Report.{named, numberNamed, disagreeing, answer}
 use Rattle.incidence.specs.Detection.{Detects, QuietRowsAgree, ChangedRowsDisagree}
@@ -14,11 +14,11 @@ use Rattle.incidence.specs.Naming.{NamesCovered}
 use Rattle.incidence.specs.declared.Answer.{Answer}
 use Rattle.incidence.proofs.Booleans.{and-left, and-right, not-both, not-passed, not-failed}
 use Rattle.incidence.proofs.Counting.{count-ext}
-use Rattle.incidence.proofs.Sums.{rowSum-same}
-use Rattle.incidence.proofs.Covering.{holds-item, item-held, names-covered}
+use Rattle.incidence.proofs.Covering.{item-held, names-covered}
+use Rattle.incidence.proofs.Drifting.{sum-kept}
 use Rattle.incidence.proofs.Detection.{detects}
 use Rattle.incidence.proofs.Rejects.{detects-as, tallies-as, names-covered-as}
-use Rattle.incidence.proofs.Tallying.{tallies}
+use Rattle.incidence.proofs.Tallying.{rows-held, tallies}
 use Rattle.sizes.specs.Sizes.{known, planeCode, familyOf}
 use Rattle.sizes.proofs.Laws.{lawful, projective}
 use Rattle.files.specs.Refusals.{none, passes}
@@ -37,7 +37,6 @@ use Rattle.scheme.specs.Claim.{Unaltered, changed, marked, NoneCancels, 
 use Rattle.checks.specs.Refused.{reportRefusal}
 use Rattle.checks.specs.Passed.{Reportable}
 use Rattle.checks.proofs.Checking.{reportable}
-use Rattle.tagging.proofs.Summing.{hashes-long}
 use Rattle.scheme.proofs.Unaltered as unaltered
 use Rattle.scheme.proofs.Unaltered.{KeyBlocks, key-blocks}
 
@@ -80,6 +79,14 @@ module _ (keys : List ℕ) (h : Head) (old : ℕ → List ℕ) (f : List ℕ) (U
   unfolding tagFile fileOf
   number-says = ap (λ (x : List ℕ). stampOf x .number) (U .file) ∙ ap (λ (x : Stamp). x .number) (stamp-is (keysIn keys .seal) h _ (U .stamped))
 
+-- an item of the same bytes has the same hash under the same stamp
+pub hash-kept : (keys : Keys) (before after : Stamp) (old new : ℕ → List ℕ) → before ≡ after → (j : ℕ) → changed old new j ≡ false
+    → hashes keys before old j ≡ hashes keys after new j
+unfolding changed hashes
+hash-kept keys before after old new e j c =
+    let b : same (old j) (new j) ≡ true = not-failed _ (λ z. not-both _ (ap not z) c) in
+    ap₂ (λ (st : Stamp) (x : List ℕ). hashes keys st (λ m. x) j) e (same-true (old j) (new j) b)
+
 -- ---- a report that is not refused, against an unaltered file
 
 module _ (keys s f : List ℕ) (room : ℕ) (b : Bytes keys) (R : Reportable keys s f room) (h : Head) (old : ℕ → List ℕ) (U : Unaltered (keysIn keys) h old f)
@@ -118,15 +125,13 @@ module _ (keys s f : List ℕ) (room : ℕ) (b : Bytes keys) (R : Reportable key
       ∙ ap₂ same (ap (λ (x : Head). rowSum (familyOf (x .code)) (hashes K (stampIn (x .stamp .version) s) (item s)) n i) head-is)
       (unaltered.rows-back K B h (U .stamped) fit old (U .bytes) i l u ∙ ap (λ (x : ℕ). rowSum F (hashes K (h .stamp) old) x i) count)
 
+  -- an unchanged item has its old hash
+  same-hash : (j : ℕ) → changed old (item s) j ≡ false → hashes K (h .stamp) old j ≡ hashes K st (item s) j
+  same-hash j e = hash-kept K (h .stamp) st old (item s) (sym same-stamp) j e
+
   quiet : QuietRowsAgree F n (changed old (item s)) (agrees K s f)
-  unfolding changed hashes
   quiet i l u free =
-      row-agrees i l u
-      ∙ same-eq _ _ (sym (rowSum-same F (hashes K (h .stamp) old) (hashes-long K (B .item .long) (h .stamp) old) n (hashes K st (item s)) i
-      (λ j a b o. ap₂ (λ (t : Stamp) (x : List ℕ). hashes K t (λ m. x) j) (sym same-stamp) (same-true (old j) (item s j) (unchanged j a b o)))))
-    where
-      unchanged : (j : ℕ) → 1 ≤ j → j ≤ n → F .on i j ≡ true → same (old j) (item s j) ≡ true
-      unchanged j a b o = not-failed (same (old j) (item s j)) (λ e. not-both _ (holds-item F (changed old (item s)) n i j a b o (ap not e)) free)
+      row-agrees i l u ∙ same-eq _ _ (sym (sum-kept F n (changed old (item s)) (hashes K (h .stamp) old) (hashes K st (item s)) (λ j a b. same-hash j) i free))
 
   loud : NoneCancels keys s h old → ChangedRowsDisagree F n (changed old (item s)) (agrees K s f)
   loud free i l u c =
@@ -179,6 +184,11 @@ module _ (keys s f : List ℕ) (room : ℕ) (b : Bytes keys) (R : Reportable key
       subst (Tallies (F .limit) n (NoneCancels keys s h old) (changed old (item s))) (sym r)
       (tallies-as (F .limit) n _ _ (changed old (item s)) _ loud (tallies F (projective (h .code) plane) n many (changed old (item s)) A quiet))
 
+  held : NoneCancels keys s h old → (rows : ℕ) → rows ≡ disagreeing (agrees K s f) (familyOf (codeOf f) .rows) → rows ≡ rowsHolding F (changed old (item s)) n
+  held free rows er =
+      er ∙ ap (λ (x : ℕ). disagreeing (agrees K s f) (familyOf x .rows)) (code-says keys h old f U)
+      ∙ rows-held F n (changed old (item s)) (agrees K s f) quiet (loud free)
+
   covers : (marks rest : List ℕ) → marks ≡ marksOf (named (familyOf (codeOf f)) (agrees K s f)) n ++ rest
       → NamesCovered F n (NoneCancels keys s h old) (changed old (item s)) (marked marks)
   covers marks rest em =
@@ -222,3 +232,9 @@ module _ (keys s f out : List ℕ) (b : Bytes keys) (e : reportRefusal keys s f 
   pub report-names : NameClaim keys s f (reportWrites keys s f out)
   unfolding reportWrites
   report-names = name-claim keys s f (length out) b passed _ _ (done _ _)
+
+  -- where no row cancels, the rows that disagree are those that hold a changed item, at every size
+  pub report-rows-held : (h : Head) (old : ℕ → List ℕ) → Unaltered (keysIn keys) h old f → h .count ≡ itemCount s → NoneCancels keys s h old
+      → reportRows keys s f out ≡ rowsHolding (familyOf (h .code)) (changed old (item s)) (itemCount s)
+  unfolding reportRows
+  report-rows-held h old U count free = held keys s f (length out) b passed h old U count free _ (done _ _)

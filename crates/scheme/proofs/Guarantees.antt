@@ -53,6 +53,12 @@ module _ (keys s f : List ℕ) (h : length keys ≡ 48) (a : refuse3 s ≡ none)
   unfolding refuse25
   verify-passes n = verify-last ∙ first-none (refuse25 s f) (unless-true _ 25 0 (eq-eqb (stampOf s .number) (stampOf f .number) n))
 
+  -- and with room for the marks
+  pub report-not-refused : (room : ℕ) → stampOf s .number ≡ stampOf f .number → itemCount s ≤ room → reportRefusal keys s f room ≡ none
+  unfolding reportRefusal refuse7
+  report-not-refused room n r =
+      first-later _ _ (verify-passes n) ∙ first-none (refuse7 (itemCount s) room) (unless-true _ 7 0 (le-leb (itemCount s) room r))
+
   verify-differs : (stampOf s .number ≡ stampOf f .number → ⊥) → verifyRefusal keys s f ≡ refusal 25 0
   unfolding refuse25
   verify-differs n =
@@ -80,10 +86,7 @@ module _ (keys s f : List ℕ) (b : Bytes keys) (k48 : length keys ≡ 48) (p : 
 
   -- Demand 3 is not empty: with the right number, and room for the marks, a report is not refused.
   pub report-passes : (room : ℕ) → stampOf s .number ≡ h .stamp .number → itemCount s ≤ room → reportRefusal keys s f room ≡ none
-  unfolding reportRefusal refuse7
-  report-passes room n r =
-      first-later _ _ (verify-passes keys s f k48 p q (is-accepted .0) (is-accepted .1) same-count (n ∙ sym number-is))
-      ∙ first-none (refuse7 (itemCount s) room) (unless-true _ 7 0 (le-leb (itemCount s) room r))
+  report-passes room n r = report-not-refused keys s f k48 p q (is-accepted .0) (is-accepted .1) same-count room (n ∙ sym number-is) r
 
   -- With another number it is refused, and the refusal says so: 25.
   pub other-number : (room : ℕ) → (stampOf s .number ≡ h .stamp .number → ⊥) → reportRefusal keys s f room ≡ refusal 25 0
@@ -188,8 +191,7 @@ module _ (keys : List ℕ) (b : Bytes keys) (k48 : length keys ≡ 48) (h : Head
       (hashes-long K (B .item .long) st (replacedItem items j new)) low high e (λ k l u ne. others-stay k ne))
   row-afresh F i false e =
       let K = keysIn keys in
-      let B = key-blocks keys b k48 in
-      rowSum-same F (hashes K st items) (hashes-long K (B .item .long) st items) n (hashes K st (replacedItem items j new)) i
+      rowSum-same F (hashes K st items) (hashes K st (replacedItem items j new)) n i
       (λ k l u o. others-stay k (λ q. not-both (F .on i k) o (ap (F .on i) q ∙ e)))
 
   sums-replaced : (k : ℕ) → 1 ≤ k → k ≤ familyOf (h .code) .tags

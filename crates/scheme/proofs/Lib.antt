@@ -5,5 +5,6 @@ pub mod Unaltered
 pub mod Claiming
 pub mod Guarantees
 pub mod Reloading
+pub mod Drifting
 pub mod Vacancies
 pub mod StarredCards

@@ -1,13 +1,13 @@
 -- Demand 3 of document 00, in document 01's 'Words of demand 3', for one report: what holds of the bytes that it wrote and of its answer,
--- whatever was done to the items. `Detects` (crate incidence) has a field for each sentence of the demand. And in the same words two requests
--- of document 02: 2.2, of the number of rows that it returned (`Tallies`), and 2.13, of the marks (`NamesCovered`), with the items after a
--- reload. Assumes nothing.
+-- whatever was done to the items. `Detects` (crate incidence) has a field for each sentence of the demand. And in the same words three requests
+-- of document 02: 2.2, of the number of rows that it returned (`Tallies`), 2.13, of the marks (`NamesCovered`), with the items after a reload,
+-- and 2.14, of that number beside another report's (`Drifts`). Assumes nothing.
 use mathlib.Core.Path.{_≡_}
 use mathlib.Core.Bool.{Bool, true, not}
 use mathlib.Core.List.{List}
 use Prim.Native.Nat.{ℕ, _-_, _≤_}
 use lib.Dec.{eqb}
-use lib.ListN.{getD}
+use lib.ListN.{length, getD}
 use Rattle.blocks.specs.Block.{if_then_else_, Bytes, same}
 use Rattle.incidence.specs.Count.{countUpTo}
 use Rattle.incidence.specs.Family.{Family}
@@ -15,16 +15,18 @@ use Rattle.incidence.specs.Sum.{rowSum}
 use Rattle.incidence.specs.Detection.{Detects}
 use Rattle.incidence.specs.Tally.{Tallies}
 use Rattle.incidence.specs.Naming.{NamesCovered}
+use Rattle.incidence.specs.Drift.{Drifts}
 use Rattle.incidence.specs.declared.Answer.{Answer}
 use Rattle.sizes.specs.Sizes.{planeCode, familyOf}
 use Rattle.files.specs.Message.{itemCount, item}
 use Rattle.stamp.specs.declared.Stamp.{Stamp}
 use Rattle.stamp.specs.Front.{stampFits}
 use Rattle.files.specs.declared.tagfile.Head.{Head}
-use Rattle.files.specs.TagFile.{newestTagFile}
+use Rattle.files.specs.TagFile.{newestTagFile, codeOf}
 use Rattle.tagging.specs.declared.Keys.{Keys}
 use Rattle.tagging.specs.Tagging.{keysIn, hashes, tagFile}
-use Rattle.scheme.specs.Calls.{stampIn}
+use Rattle.checks.specs.Refused.{reportRefusal}
+use Rattle.scheme.specs.Calls.{stampIn, reportRows}
 
 -- "The unaltered sheet of a shelf, for given keys and size, is laid out for that shelf and size with the tags that Tag's rule gives, and sealed
 -- under those keys, whichever call wrote it": f is it, for the items `old`, in the version and with the number that h says. "A version 1 sheet
@@ -90,6 +92,16 @@ abbrev pub NameClaim : List ℕ → List ℕ → List ℕ → List ℕ → Type 
 NameClaim keys s f marks =
     Against keys s f
     (λ h old. NamesCovered (familyOf (h .code)) (itemCount s) (NoneCancels keys s h old) (changed old (item s)) (marked marks))
+
+-- ---- what is claimed of two reports against one tag file, whichever: nothing is asked of it but that neither is refused
+
+-- Document 02, 2.14, "against one sheet and with the same keys": the numbers of disagreeing rows returned for the messages s and t
+abbrev pub RowsDrift : List ℕ → List ℕ → List ℕ → ℕ → ℕ → Type 0
+RowsDrift s t f rows others = Drifts (familyOf (codeOf f)) (itemCount s) (planeCode (codeOf f) ≡ true) (changed (item s) (item t)) rows others
+
+-- of the number that a report on s returned, beside that of every other report with these keys against f
+abbrev pub DriftClaim : List ℕ → List ℕ → List ℕ → ℕ → Type 0
+DriftClaim keys s f rows = (t out : List ℕ) → reportRefusal keys t f (length out) .number ≡ 0 → RowsDrift s t f rows (reportRows keys t f out)
 
 -- ---- what to do with a list of named items
 

@@ -27,7 +27,7 @@ ghost use Rattle.tagging.specs.Tagging.{keysIn, fileOf, tagFile, tagHead};
 ghost use Rattle.checks.specs.Refused.{tagRefusal, verifyRefusal, reportRefusal, replaceRefusal};
 ghost use Rattle.checks.specs.Passed.{Taggable, Comparable, Replaceable};
 ghost use Rattle.scheme.specs.Calls.{tagWrites, stampIn, tagsFor, verifyYes, sumTagged, tagDifference, reportWrites, reportAnswer, reportNamed, reportRows, replacedSum, replaceWrites};
-ghost use Rattle.scheme.specs.Claim.{Claim, RowClaim, NameClaim};
+ghost use Rattle.scheme.specs.Claim.{Claim, RowClaim, NameClaim, DriftClaim};
 
 // Writes the tag file of a message that is not refused to the front of out.
 fn write_tag_file(keys: &[u8], code: u64, s: &[u8], out: &mut [u8])
@@ -234,8 +234,9 @@ fn decode_files(s: &[u8], f: &[u8], sums: &mut [u8], marks: &mut [u8]) -> Decode
 
 // Report: writes a mark for each item of the message, 1 named and 0 cleared, to the front of marks; the bytes behind stay.
 // Refuses as Verify, then 7, the first that applies; marks are then as they were, the answer is Beyond and the numbers are 0.
-// The clause `detection` is demand 3; `counting` says what the number of rows means on a plane (document 02, 2.2), and `naming` what the
-// marks mean at every size, however many they are (2.13).
+// The clause `detection` is demand 3; `counting` says what the number of rows means on a plane (document 02, 2.2), `naming` what the marks
+// mean at every size, however many they are (2.13), and `drifting` how far the number of rows is from that of another report against the
+// same file (2.14).
 pub fn report(keys: &[u8], message: &[u8], file: &[u8], marks: &mut [u8]) -> Reported
     ensures refused { λ r. ⌜ r .refused ≡ reportRefusal (now (keys .entry)) (now (message .entry)) (now (file .entry)) (length (now (marks .entry))) ⌝ }
     ensures written { λ _. ⌜ now (marks .exit) ≡ reportWrites (now (keys .entry)) (now (message .entry)) (now (file .entry)) (now (marks .entry)) ⌝ }
@@ -245,6 +246,7 @@ pub fn report(keys: &[u8], message: &[u8], file: &[u8], marks: &mut [u8]) -> Rep
     ensures detection { λ r. ⌜ (r .refused .number ≡ 0 → Claim (now (keys .entry)) (now (message .entry)) (now (file .entry)) (now (marks .exit)) (r .named) (r .answer)) ⌝ }
     ensures counting { λ r. ⌜ (r .refused .number ≡ 0 → RowClaim (now (keys .entry)) (now (message .entry)) (now (file .entry)) (r .rows)) ⌝ }
     ensures naming { λ r. ⌜ (r .refused .number ≡ 0 → NameClaim (now (keys .entry)) (now (message .entry)) (now (file .entry)) (now (marks .exit))) ⌝ }
+    ensures drifting { λ r. ⌜ (r .refused .number ≡ 0 → DriftClaim (now (keys .entry)) (now (message .entry)) (now (file .entry)) (r .rows)) ⌝ }
 {
     let mut sums = [0u8; sums::ROWS_MOST];
     let refused = compare(keys, message, file, marks.len(), &mut sums);

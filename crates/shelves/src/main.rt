@@ -1,8 +1,9 @@
-// Whole shelves of every size, a line of `stdin` a case in the words of trial's `line`: sessions and Replace against Tag, and reports with 0, 1,
-// d and d + 1 cards altered, withdrawn or added, in every version, with a number and without, with vacant places and without; on the planes
-// also with one and two altered cards near and far, on shelves of 1 card, 2, all but one and all, and with three on one row or not; and at
-// every size with so many altered that others are named too, 40 at size 4. Sessions that do not add the last places close with the sheet of
-// the shelf in which these are vacant. `stdout` has what is right, counted from document 01's difference lists, and for the affine sizes from
+// Whole shelves of every size, a line of `stdin` a case in the words of trial's `line`: sessions and Replace against Tag, and reports with
+// 0, 1, d and d + 1 cards altered, withdrawn or added, in every version, with a number and without, with vacant places and without; on the
+// planes also with one and two altered cards near and far, on shelves of 1 card, 2, all but one and all, and with three on one row or not;
+// and at every size with so many altered that others are named too, 40 at size 4. Shelves that drift: card after card is altered, and the
+// rows are counted against the sheet of the first shelf or of another. Sessions that do not add the last places close with the sheet of the
+// shelf in which these are vacant. `stdout` has what is right, counted from document 01's difference lists, and for the affine sizes from
 // the lines and points of document 02, 2.7. Last, the session whose cards are too long for one shelf.
 use trial::inputs;
 use trial::inputs::KEYS;

@@ -1,4 +1,5 @@
 // The calls, each with what comes out: the refusal or that there is none, the answer, and how far the buffer was written.
+use crate::drift;
 use crate::given;
 use crate::inputs;
 use crate::judge;
@@ -9,9 +10,13 @@ use files::Refusal;
 use files::message;
 use session::Session;
 ghost use Prim.Native.Nat.{_≤_};
+ghost use lib.ListN.{length};
 
 // The calls by their numbers, with eight bytes for each.
-pub const NAMES: [u8; 64] = *b"Tag     Verify  Report  Replace Fetch   begin   put     close   ";
+pub const NAMES: [u8; 72] =
+    *b"Tag     Verify  Report  Replace Fetch   begin   put     close   Drift   ";
+
+const DRIFT: usize = 8;
 
 // How many bytes are lent, of the 1,400 that there are.
 fn room(lent: u64) -> usize
@@ -141,7 +146,13 @@ fn close(s: Session, keys: &[u8], size: u64, shelf: &[u8], out: &mut [u8]) {
 }
 
 // Runs the call that a number of NAMES stands for.
-fn run_into(call: usize, n: &[u64; 22], bytes: &[u8], out: &mut [u8]) {
+fn run_into(call: usize, n: &[u64; 22], bytes: &mut [u8], out: &mut [u8])
+    requires { ⌜ 72192 ≤ length (now bytes) ⌝ }
+{
+    if call == DRIFT {
+        drift::run(n, bytes);
+        return;
+    }
     let shelf = given::part(bytes, given::SHELF, n[given::SHELF]);
     let keys = given::part(bytes, given::KEYS, n[given::KEYS]);
     let sheet = given::part(bytes, given::SHEET, n[given::SHEET]);
@@ -194,7 +205,9 @@ fn run_of_cards(
 }
 
 // Says a line, runs its call, and says what came out.
-pub fn run(line: &[u8], call: usize, n: &[u64; 22], bytes: &[u8]) {
+pub fn run(line: &[u8], call: usize, n: &[u64; 22], bytes: &mut [u8])
+    requires { ⌜ 72192 ≤ length (now bytes) ⌝ }
+{
     let lent = room(n[given::LENT]);
     let mut out = [0xa5u8; 1400];
     say::text(line);

@@ -192,6 +192,16 @@ fn first_card(bytes: &[u8]) -> usize
     message::items_at(stamp::version_of(bytes)) + 2
 }
 
+// Alters card j of a shelf of short cards; 0 and 274 are none.
+pub fn alter_card(bytes: &mut [u8], j: u64)
+    requires { ⌜ 72192 ≤ length (now bytes) ⌝ }
+{
+    let e = (j % 274) as usize;
+    if e != 0 {
+        inputs::alter(bytes, first_card(bytes), e - 1, e);
+    }
+}
+
 // Takes away the bytes of card j of a shelf whose cards up to it have two bytes each; gives how long the shelf is then.
 fn vacate(bytes: &mut [u8], n: u64, j: u64) -> u64
     requires { ⌜ 72192 ≤ length (now bytes) ⌝ }

@@ -3,7 +3,7 @@
 //     shelf N, keys N, old N, new N   that argument's first N bytes are given, zeros behind those that it has
 //     sheet N                         the same of the sheet of the shelf as it is by then, for the size and in the version given by then
 //     byte P is V, byte P flip V      the byte P of the argument named last is V, or has the bits of V flipped
-//     size N, count N, card N         the size code, a session's count, a card number
+//     size N, count N, card N         the size code, a session's count, a card number; of a drift, how many cards and the first of them
 //     version N                       the version of a sheet, 1 to 3: 1 where a line does not say otherwise
 //     number N                        the shelf as it is by then is of version 2 and has the number N, which a session is also begun with
 //     lent N                          how many bytes are lent, at most 1,400
@@ -94,8 +94,8 @@ fn run(line: &[u8]) {
     let mut bytes = [0u8; 72192];
     given::put_usual(&mut bytes);
     steps(line, next(line, 0), &mut n, &mut bytes);
-    let call = place_in(&calls::NAMES, 8, word(line, 0));
-    calls::run(line, call, &n, &bytes);
+    let call = place_in(&calls::NAMES, 9, word(line, 0));
+    calls::run(line, call, &n, &mut bytes);
 }
 
 // How many bytes a text of lines has at most.

@@ -1,4 +1,4 @@
--- Refused, or decoded from the differences of the tags (Comparing); and demand 3 and requests 2.2 and 2.13 (Claiming).
+-- Refused, or decoded from the differences of the tags (Comparing); and demand 3 and requests 2.2 and 2.13 (Claiming) and 2.14 (Drifting).
 use Rattle.fips197.proofs.Kit.{refl, _∙_, arith, length, needs}
 use Rattle.blocks.proofs.Xor.{bytes-from}
 use Rattle.sizes.proofs.Laws.{rows-few, tags-few}
@@ -11,6 +11,7 @@ use Rattle.scheme.specs.Calls.{reportWrites, reportAnswer, reportNamed, 
 use Rattle.scheme.proofs.Filing.{tag-key-long, item-key-long}
 use Rattle.scheme.proofs.Comparing.{written-as, answer-as, named-as, rows-as}
 use Rattle.scheme.proofs.Claiming.{claim, row-claim, name-claim}
+use Rattle.scheme.proofs.Drifting.{drift-claim}
 use Rattle.scheme.proofs.report.Statement.{statement}
 use Rattle.scheme.proofs.report.Tie as tie
 
@@ -19,7 +20,7 @@ unfolding reportWrites reportAnswer reportNamed reportRows
 returns c =
     let e = c .before .before .before .compare .ensures .0 in
     let t = c .if1 .taken in
-    (e, (kept _ _ e _ _ t, (kept _ _ e _ _ t, (kept _ _ e _ _ t, (kept _ _ e _ _ t, (λ z. absurd (t z), (λ z. absurd (t z), λ z. absurd (t z))))))))
+    (e, (kept _ _ e _ _ t, (kept _ _ e _ _ t, (kept _ _ e _ _ t, (kept _ _ e _ _ t, (λ z. absurd (t z), (λ z. absurd (t z), (λ z. absurd (t z), λ z. absurd (t z)))))))))
 
 -- what holds where it is not refused
 module _ (c : tie.After-sums3) where
@@ -58,7 +59,7 @@ returns-2 c =
     let n = named-as (keysIn keys) m f _ _ (p .files .file) (p .files .counts) hi ht H _ (e .1 .1 .0) in
     let r = rows-as (keysIn keys) m f _ _ (p .files .file) (p .files .counts) hi ht H _ (e .1 .1 .1) in
     let b = bytes-from keys (λ i l. omega (arith, s .before .before .before .before .before .before .before .before .before .shared-slice-known .given i)) in
-    (q .0, (w ∙ given _ _ (q .0) _ _ t, (a ∙ given _ _ (q .0) _ _ t, (n ∙ given _ _ (q .0) _ _ t, (r ∙ given _ _ (q .0) _ _ t, (λ z. claim keys m f _ b p _ _ _ _ w n a, (λ z. row-claim keys m f _ b p _ r, λ z. name-claim keys m f _ b p _ _ w)))))))
+    (q .0, (w ∙ given _ _ (q .0) _ _ t, (a ∙ given _ _ (q .0) _ _ t, (n ∙ given _ _ (q .0) _ _ t, (r ∙ given _ _ (q .0) _ _ t, (λ z. claim keys m f _ b p _ _ _ _ w n a, (λ z. row-claim keys m f _ b p _ r, (λ z. name-claim keys m f _ b p _ _ w, λ z. drift-claim keys m f _ p _ r))))))))
 
 pub report-spec : {M : Type 1} → statement M
 report-spec =
