@@ -93,8 +93,9 @@ uint64_t gtm_verify(const uint8_t *keys, size_t keys_len, const uint8_t *shelf, 
  * tell how many cards were altered: with that exception d + 1 disagree exactly when one was, and 2 d + 1 exactly when two were; whatever
  * cancels out, more than k d + 1 disagree only when more than k were.
  *
- * Against any sheet, from one report to another with the same keys, the number of rows moves by at most the rows that hold a card altered in
- * between, whatever cancels out: at sizes 1 to 4 by at most d + 1 for one card, and k d + 1 for k. */
+ * Two reports with the same keys against the same sheet, whatever it holds, neither of them refused: the numbers of rows are apart by at most
+ * the rows that hold a card in which the two shelves differ, whatever cancels out. At sizes 1 to 4 that is at most d + 1 for one card, and
+ * k d + 1 for k. */
 uint64_t gtm_report(const uint8_t *keys, size_t keys_len, const uint8_t *shelf, size_t shelf_len, const uint8_t *sheet,
                     size_t sheet_len, uint8_t *marks, size_t marks_len);
 

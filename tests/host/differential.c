@@ -228,9 +228,9 @@ static unsigned long moves[3];                              /* of the number of 
 static unsigned long unseen[2];                             /* added and withdrawn under version 3 with a code of zero: no row shows them */
 
 /* What was seen of each size. The first four are the calls that were done. */
-enum { NO = 4, YES, AFRESH, CANCELS, OTHERS_NAMED, RELOADED, DRIFTED, DRIFTED_OTHER, NO_CARD, FULL, ONE_ABOVE, FAR_ABOVE, FAR_CODE, OF_SIZE };
+enum { NO = 4, YES, AFRESH, CANCELS, OTHERS_NAMED, RELOADED, DRIFTED, DRIFTED_STRANGE, NO_CARD, FULL, ONE_ABOVE, FAR_ABOVE, FAR_CODE, OF_SIZE };
 static const char *const of_size_names[OF_SIZE] = {"tagged", "verified", "reported", "replaced", "no", "yes", "replaced as tagged afresh",
-                                                   "a row cancels", "others named too", "reloaded", "drifted", "drifted against another sheet",
+                                                   "a row cancels", "others named too", "reloaded", "drifted", "drifted against other tags",
                                                    "count 0", "full",
                                                    "one card too many", "far too many", "code far above"};
 static unsigned long of_size[SIZES][OF_SIZE];
@@ -542,36 +542,38 @@ static unsigned check_apart(const char *what, unsigned before, unsigned most)
 
 /* Document 02, 2.14, of any sheet: as cards are altered one by one, the number of rows moves each time by at most the rows through that card,
  * d + 1 on a plane; and altogether by at most the rows that hold one of them, on a plane k d + 1 for k of them. Some cards are put back. */
-static void check_drift(const struct family *f, unsigned first, int honest)
+static void check_drift(const struct family *f, unsigned first, unsigned long *drifted)
 {
     static uint8_t altered[MOST_CARDS + 1], alone[MOST_CARDS + 1], kept[ROOM];
     unsigned rows = first, k = 0;
     memset(altered, 0, sizeof altered);
     for (unsigned steps = 1 + below(4); steps != 0; steps--) {
-        unsigned j = 1 + below(second_count(shelf.bytes));
+        unsigned j = 1 + below(second_count(shelf.bytes)), before = rows;
+        uint8_t again = altered[j];
         size_t len = shelf.len;
         memcpy(kept, shelf.bytes, len);
         if (!alter_in_shelf(j))
             continue;
-        k += !altered[j];
+        k += !again;
         memset(alone, 0, sizeof alone);
         altered[j] = alone[j] = 1;
         unsigned through = rows_holding(f, alone), holding = rows_holding(f, altered);
         if (f < families + PLANES && (through != f->limit + 1 || holding > k * f->limit + 1))
             differs("the rows of a plane that hold a card", through, holding);
-        unsigned before = rows;
         rows = check_apart("the rows before and after a card was altered", rows, through);
         if (first > rows + holding || rows > first + holding)
             differs("the rows before and after some cards were altered", first, rows);
         if (one_in(2)) {
             memcpy(shelf.bytes, kept, len);
             shelf.len = len;
-            if (check_apart("the rows before and after a card was put back", rows, through) != before)
+            altered[j] = again;
+            k -= !again;
+            rows = check_apart("the rows before and after a card was put back", rows, through);
+            if (rows != before)
                 differs("the rows of the same shelf", before, rows);
-            rows = before;
         }
+        *drifted += 1;
     }
-    of(f)[honest ? DRIFTED : DRIFTED_OTHER]++;
 }
 
 /* ---- The listed cases ---- */
@@ -681,7 +683,7 @@ static void list_counts(const struct family *f)
 }
 
 /* Up to two cards more than the limit changed, many more (40 at size 4), all but one, or all; as many as the limit, so that a row cancels;
- * one that no row shows; and a sealed sheet with the tags of no shelf. */
+ * one that no row shows; and a sealed sheet some of whose tags are of no shelf. */
 static void list_changed(const struct family *f, unsigned version)
 {
     const unsigned many[] = {5 * f->limit / 2, f->cards - 1, f->cards};
@@ -894,7 +896,9 @@ static void spoil(const struct plan *p, struct chosen *c)
         c->honest = 1;
         break;
     case STRANGE:
-        fill(sheet.bytes + sheet_head(), 16 * cards.family->tags);
+        for (unsigned tag = 0; tag < cards.family->tags; tag++)
+            if (tag == 0 || one_in(4))
+                fill(sheet.bytes + sheet_head() + 16 * tag, 16);
         reseal();
         break;
     default: /* the sheet is that of the second number */
@@ -1119,7 +1123,7 @@ static void run_case(void)
     if (c.honest && second.number == 0 && c.call == REPLACE)
         check_replaced(c.number);
     if (second.number == 0 && c.call == REPORT)
-        check_drift(size_of_sheet(), second.rows, c.honest);
+        check_drift(size_of_sheet(), second.rows, of(size_of_sheet()) + (plan != NULL && plan->about == STRANGE ? DRIFTED_STRANGE : DRIFTED));
     if (c.honest && second.number == 0 && c.call == REPORT)
         check_detection(second);
 }

@@ -17,7 +17,7 @@ use Rattle.scheme.specs.Calls.{agrees, reportAnswer, reportNamed, reportRows}
 use Rattle.scheme.specs.Claim.{Claim, RowClaim, RowsDrift, DriftClaim}
 use Rattle.checks.specs.Passed.{Reportable}
 use Rattle.checks.proofs.Checking.{reportable, file-count}
-use Rattle.firmware.specs.Packed.{packed, packedYes, packedReport, reportWord, numberIn, placeIn, yesIn, answerIn, namedIn, rowsIn, ReadsReport, DriftRead}
+use Rattle.firmware.specs.Packed.{packed, packedYes, packedReport, reportPacked, numberIn, placeIn, yesIn, answerIn, namedIn, rowsIn, ReadsReport, DriftRead}
 use Rattle.firmware.proofs.Places.{report-number}
 
 -- ---- refusals
@@ -95,10 +95,10 @@ yes-back r t h = ap (λ (w : ℕ). w / 256 % 2) (sym (yes-done r t h)) ∙ go t
     go true = refl
     go false = refl
 
-pub word-is : (keys s f marks : List ℕ) (r : Refusal) (a : Answer) (names rows : ℕ) → r ≡ reportRefusal keys s f (length marks) → a ≡ reportAnswer keys s f marks
-    → names ≡ reportNamed keys s f marks → rows ≡ reportRows keys s f marks → packedReport r a names rows ≡ reportWord keys s f marks
-unfolding reportWord
-word-is keys s f marks r a names rows er ea en em = λ i. packedReport (er i) (ea i) (en i) (em i)
+pub packed-is : (keys s f marks : List ℕ) (r : Refusal) (a : Answer) (names rows : ℕ) → r ≡ reportRefusal keys s f (length marks) → a ≡ reportAnswer keys s f marks
+    → names ≡ reportNamed keys s f marks → rows ≡ reportRows keys s f marks → packedReport r a names rows ≡ reportPacked keys s f marks
+unfolding reportPacked
+packed-is keys s f marks r a names rows er ea en em = λ i. packedReport (er i) (ea i) (en i) (em i)
 
 -- ---- demand 3 and requests 2.2 and 2.14 as C reads them
 
@@ -136,16 +136,16 @@ module _ (keys s f before : List ℕ) (r : Refusal) (a : Answer) (names rows w :
       let t = ordinal-tells said a (es ∙ R .answer ∙ ap (λ (x : Answer). meaning x .ordinal) (sym ea)) in
       subst (λ (x : Answer). Claim keys s f marks (namedIn w) x) (sym t) (subst (λ (x : ℕ). Claim keys s f marks x a) (en ∙ sym (R .named)) (D (z e)))
 
-  pub rows-same : rows ≡ rowsIn w
-  rows-same = em ∙ sym (report-read .disagreeing)
+  pub rows-as-read : rows ≡ rowsIn w
+  rows-as-read = em ∙ sym (report-read .disagreeing)
 
   pub rows-packed : (r .number ≡ 0 → RowClaim keys s f rows) → RowClaim keys s f (rowsIn w)
-  rows-packed D = subst (RowClaim keys s f) rows-same (D (z e))
+  rows-packed D = subst (RowClaim keys s f) rows-as-read (D (z e))
 
 -- the rows of any other report, read from its number
-rows-read : (keys s f marks : List ℕ) → numberIn (reportWord keys s f marks) ≡ 0
-    → (reportRefusal keys s f (length marks) .number ≡ 0) × (rowsIn (reportWord keys s f marks) ≡ reportRows keys s f marks)
-unfolding reportWord
+rows-read : (keys s f marks : List ℕ) → numberIn (reportPacked keys s f marks) ≡ 0
+    → (reportRefusal keys s f (length marks) .number ≡ 0) × (rowsIn (reportPacked keys s f marks) ≡ reportRows keys s f marks)
+unfolding reportPacked
 rows-read keys s f marks e =
     let z = report-passes (reportRefusal keys s f (length marks)) (reportAnswer keys s f marks) (reportNamed keys s f marks) (reportRows keys s f marks) (report-number keys s f (length marks)) in
     (z e, report-read keys s f marks _ _ _ _ _ refl refl refl refl refl z e .disagreeing)
@@ -154,4 +154,4 @@ rows-read keys s f marks e =
 pub drift-read : (keys s f : List ℕ) (rows w : ℕ) → rows ≡ rowsIn w → DriftClaim keys s f rows → DriftRead keys s f w
 drift-read keys s f rows w e D t marks z =
     let q = rows-read keys t f marks z in
-    subst (λ (x : ℕ). RowsDrift s t f x (rowsIn (reportWord keys t f marks))) e (subst (RowsDrift s t f rows) (sym (q .1)) (D t marks (q .0)))
+    subst (λ (x : ℕ). RowsDrift s t f x (rowsIn (reportPacked keys t f marks))) e (subst (RowsDrift s t f rows) (sym (q .1)) (D t marks (q .0)))

@@ -29,8 +29,8 @@ unfoldable pub packedReport : Refusal → Answer → ℕ → ℕ → ℕ
 packedReport r said names rows = if passes r then 256 * meaning said .ordinal + 65536 * (names % 65536) + 4294967296 * (rows % 65536) else packed r
 
 -- the number that a report returns
-unfoldable pub reportWord : List ℕ → List ℕ → List ℕ → List ℕ → ℕ
-reportWord keys s f marks =
+unfoldable pub reportPacked : List ℕ → List ℕ → List ℕ → List ℕ → ℕ
+reportPacked keys s f marks =
     packedReport (reportRefusal keys s f (length marks)) (reportAnswer keys s f marks) (reportNamed keys s f marks) (reportRows keys s f marks)
 
 -- ---- what C reads from it
@@ -61,4 +61,4 @@ pub record ReadsReport (w : ℕ) (said : Answer) (names rows : ℕ) : Type 0 whe
 
 -- Document 02, 2.14, of the number w that a report on s returned, beside that of every other report with these keys against f
 abbrev pub DriftRead : List ℕ → List ℕ → List ℕ → ℕ → Type 0
-DriftRead keys s f w = (t marks : List ℕ) → numberIn (reportWord keys t f marks) ≡ 0 → RowsDrift s t f (rowsIn w) (rowsIn (reportWord keys t f marks))
+DriftRead keys s f w = (t marks : List ℕ) → numberIn (reportPacked keys t f marks) ≡ 0 → RowsDrift s t f (rowsIn w) (rowsIn (reportPacked keys t f marks))

@@ -11,7 +11,7 @@ ghost use Rattle.incidence.specs.declared.Answer.{Answer};
 ghost use Rattle.checks.specs.Refused.{tagRefusal, verifyRefusal, replaceRefusal};
 ghost use Rattle.scheme.specs.Calls.{tagWrites, verifyYes, reportWrites, reportAnswer, reportNamed, reportRows, replaceWrites};
 ghost use Rattle.scheme.specs.Claim.{Claim, RowClaim, NameClaim};
-ghost use Rattle.firmware.specs.Packed.{packed, packedYes, packedReport, reportWord, numberIn, answerIn, namedIn, rowsIn, ReadsReport, DriftRead};
+ghost use Rattle.firmware.specs.Packed.{packed, packedYes, packedReport, reportPacked, numberIn, answerIn, namedIn, rowsIn, ReadsReport, DriftRead};
 
 // A refusal as one number.
 fn pack(r: Refusal) -> u64
@@ -75,7 +75,7 @@ pub extern "C" fn gtm_verify(keys: &[u8], message: &[u8], tagfile: &[u8]) -> u64
 
 #[no_mangle]
 pub extern "C" fn gtm_report(keys: &[u8], message: &[u8], tagfile: &[u8], marks: &mut [u8]) -> u64
-    ensures says { λ w. ⌜ w ≡ reportWord (now (keys .entry)) (now (message .entry)) (now (tagfile .entry)) (now (marks .entry)) ⌝ }
+    ensures says { λ w. ⌜ w ≡ reportPacked (now (keys .entry)) (now (message .entry)) (now (tagfile .entry)) (now (marks .entry)) ⌝ }
     ensures written { λ _. ⌜ now (marks .exit) ≡ reportWrites (now (keys .entry)) (now (message .entry)) (now (tagfile .entry)) (now (marks .entry)) ⌝ }
     ensures read { λ w. ⌜ (numberIn w ≡ 0 → ReadsReport w (reportAnswer (now (keys .entry)) (now (message .entry)) (now (tagfile .entry)) (now (marks .entry))) (reportNamed (now (keys .entry)) (now (message .entry)) (now (tagfile .entry)) (now (marks .entry))) (reportRows (now (keys .entry)) (now (message .entry)) (now (tagfile .entry)) (now (marks .entry)))) ⌝ }
     ensures detection { λ w. ⌜ (numberIn w ≡ 0 → (said : Answer) → meaning said .ordinal ≡ answerIn w → Claim (now (keys .entry)) (now (message .entry)) (now (tagfile .entry)) (now (marks .exit)) (namedIn w) said) ⌝ }

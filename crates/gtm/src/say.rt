@@ -59,11 +59,11 @@ fn usage_of_reports(fd: i32) {
     );
     io::write_all(
         fd,
-        b"for k; fewer where changes cancel out. Against any one sheet, k cards altered between two reports move the number of\n",
+        b"for k; fewer where changes cancel out. With the same keys and any one sheet, k cards altered between two reports move\n",
     );
     io::write_all(
         fd,
-        b"rows by at most k x limit + 1, and at the other sizes by at most the rows through these cards.\n",
+        b"the number of rows by at most k x limit + 1, and at the other SIZEs by at most the rows through these cards.\n",
     );
 }
 

@@ -74,7 +74,7 @@ pub count-both : (p q : ℕ → Bool) (n : ℕ) → countUpTo (λ i. p i || q i)
 count-both p q zero = refl
 count-both p q (suc n) = omega (arith, bit-both (p (suc n)) (q (suc n)), count-both p q n)
 
--- where two tests differ on no number but those that pass a third, so many of these at most are what more pass the one than the other
+-- where two tests differ only on numbers that pass a third, their counts are apart by at most the third's
 count-beyond : (p q r : ℕ → Bool) (n : ℕ) → ((i : ℕ) → 1 ≤ i → i ≤ n → r i ≡ false → p i ≡ q i) → countUpTo p n ≤ countUpTo q n + countUpTo r n
 count-beyond p q r n h =
     omega (arith, count-both q r n, count-mono p (λ i. q i || r i) n (λ i l u t. go i (h i l u) t (r i) refl))

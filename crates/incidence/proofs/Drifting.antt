@@ -15,10 +15,10 @@ use Rattle.incidence.proofs.Tallying.{held-most}
 module _ (F : Family) (n : ℕ) (differs : ℕ → Bool) where
   -- where no item but j differs, the rows that hold one are among those through j
   through-one : (j : ℕ) → ((k : ℕ) → 1 ≤ k → k ≤ n → (k ≡ j → ⊥) → differs k ≡ false) → rowsHolding F differs n ≤ rowsThrough F j
-  through-one j only = count-mono (holdsOne F differs n) (λ i. F .on i j) (F .rows) (λ i l u t. held i (item-held F differs n i t))
+  through-one j only = count-mono (holdsOne F differs n) (λ i. F .on i j) (F .rows) (λ i l u t. holds-j i (item-held F differs n i t))
     where
-      held : (i : ℕ) → Found (λ k. F .on i k && differs k) n → F .on i j ≡ true
-      held i w = go (eqb (w .at) j) refl
+      holds-j : (i : ℕ) → Found (λ k. F .on i k && differs k) n → F .on i j ≡ true
+      holds-j i w = go (eqb (w .at) j) refl
         where
           go : (b : Bool) → eqb (w .at) j ≡ b → F .on i j ≡ true
           go true e = subst (λ (k : ℕ). F .on i k ≡ true) (eqb-true (w .at) j e) (and-left (F .on i (w .at)) _ (w .passes))

@@ -18,5 +18,5 @@ pub record Drifts (F : Family) (n : ℕ) (OnPlane : Type 0) (differs : ℕ → B
   pub one : (j : ℕ) → ((k : ℕ) → 1 ≤ k → k ≤ n → (k ≡ j → ⊥) → differs k ≡ false) → ApartAtMost (rowsThrough F j) rows others
   -- whichever differ, by at most the rows that hold one of them
   pub several : ApartAtMost (rowsHolding F differs n) rows others
-  -- which on a plane are at most kd+1 for k or fewer of them, k at least 1: each shares a row with the first
+  -- which on a plane are at most kd+1 for k or fewer of them, since each shares a row with the first; for k = 0 `several` says more
   pub several-on-plane : OnPlane → (k : ℕ) → countUpTo differs n ≤ k → ApartAtMost (k * F .limit + 1) rows others

@@ -71,7 +71,7 @@ marked-is p n rest marks e j l u =
 
 -- an unaltered file says the size code and the number that it was laid out for
 module _ (keys : List ℕ) (h : Head) (old : ℕ → List ℕ) (f : List ℕ) (U : Unaltered (keysIn keys) h old f) where
-  code-says : codeOf f ≡ h .code
+  pub code-says : codeOf f ≡ h .code
   unfolding tagFile fileOf
   code-says = ap codeOf (U .file) ∙ code-is (keysIn keys .seal) h _ (U .stamped)
 
@@ -97,7 +97,7 @@ module _ (keys s f : List ℕ) (room : ℕ) (b : Bytes keys) (R : Reportable key
   B : KeyBlocks K
   B = key-blocks keys b (R .files .keys48)
 
-  pub fit : countFits (h .code) (h .count) ≡ true
+  fit : countFits (h .code) (h .count) ≡ true
   fit = ap₂ countFits (sym (code-says keys h old f U)) (count ∙ R .files .counts) ∙ R .files .file .fits
 
   abbrev F : Family
@@ -125,13 +125,9 @@ module _ (keys s f : List ℕ) (room : ℕ) (b : Bytes keys) (R : Reportable key
       ∙ ap₂ same (ap (λ (x : Head). rowSum (familyOf (x .code)) (hashes K (stampIn (x .stamp .version) s) (item s)) n i) head-is)
       (unaltered.rows-back K B h (U .stamped) fit old (U .bytes) i l u ∙ ap (λ (x : ℕ). rowSum F (hashes K (h .stamp) old) x i) count)
 
-  -- an unchanged item has its old hash
-  same-hash : (j : ℕ) → changed old (item s) j ≡ false → hashes K (h .stamp) old j ≡ hashes K st (item s) j
-  same-hash j e = hash-kept K (h .stamp) st old (item s) (sym same-stamp) j e
-
   quiet : QuietRowsAgree F n (changed old (item s)) (agrees K s f)
   quiet i l u free =
-      row-agrees i l u ∙ same-eq _ _ (sym (sum-kept F n (changed old (item s)) (hashes K (h .stamp) old) (hashes K st (item s)) (λ j a b. same-hash j) i free))
+      row-agrees i l u ∙ same-eq _ _ (sym (sum-kept F n (changed old (item s)) (hashes K (h .stamp) old) (hashes K st (item s)) (λ j a b. hash-kept K _ _ old (item s) (sym same-stamp) j) i free))
 
   loud : NoneCancels keys s h old → ChangedRowsDisagree F n (changed old (item s)) (agrees K s f)
   loud free i l u c =
@@ -176,18 +172,18 @@ module _ (keys s f : List ℕ) (room : ℕ) (b : Bytes keys) (R : Reportable key
         k ∙ sym (count-ext (marked marks) (named F A) n (marks-named marks rest em)),
       )
 
+  -- the rows that disagree, of the size that the file was laid out for
+  rows-say : (rows : ℕ) → rows ≡ disagreeing (agrees K s f) (familyOf (codeOf f) .rows) → rows ≡ disagreeing (agrees K s f) (F .rows)
+  rows-say rows er = er ∙ ap (λ (x : ℕ). disagreeing (agrees K s f) (familyOf x .rows)) (code-says keys h old f U)
+
   tallied : planeCode (h .code) ≡ true → (rows : ℕ) → rows ≡ disagreeing (agrees K s f) (familyOf (codeOf f) .rows)
       → Tallies (F .limit) n (NoneCancels keys s h old) (changed old (item s)) rows
   tallied plane rows er =
-      let A = agrees K s f in
-      let r = er ∙ ap (λ (x : ℕ). disagreeing A (familyOf x .rows)) (code-says keys h old f U) in
-      subst (Tallies (F .limit) n (NoneCancels keys s h old) (changed old (item s))) (sym r)
-      (tallies-as (F .limit) n _ _ (changed old (item s)) _ loud (tallies F (projective (h .code) plane) n many (changed old (item s)) A quiet))
+      subst (Tallies (F .limit) n (NoneCancels keys s h old) (changed old (item s))) (sym (rows-say rows er))
+      (tallies-as (F .limit) n _ _ (changed old (item s)) _ loud (tallies F (projective (h .code) plane) n many (changed old (item s)) (agrees K s f) quiet))
 
-  held : NoneCancels keys s h old → (rows : ℕ) → rows ≡ disagreeing (agrees K s f) (familyOf (codeOf f) .rows) → rows ≡ rowsHolding F (changed old (item s)) n
-  held free rows er =
-      er ∙ ap (λ (x : ℕ). disagreeing (agrees K s f) (familyOf x .rows)) (code-says keys h old f U)
-      ∙ rows-held F n (changed old (item s)) (agrees K s f) quiet (loud free)
+  rows-counted : NoneCancels keys s h old → (rows : ℕ) → rows ≡ disagreeing (agrees K s f) (familyOf (codeOf f) .rows) → rows ≡ rowsHolding F (changed old (item s)) n
+  rows-counted free rows er = rows-say rows er ∙ rows-held F n (changed old (item s)) (agrees K s f) quiet (loud free)
 
   covers : (marks rest : List ℕ) → marks ≡ marksOf (named (familyOf (codeOf f)) (agrees K s f)) n ++ rest
       → NamesCovered F n (NoneCancels keys s h old) (changed old (item s)) (marked marks)
@@ -237,4 +233,4 @@ module _ (keys s f out : List ℕ) (b : Bytes keys) (e : reportRefusal keys s f 
   pub report-rows-held : (h : Head) (old : ℕ → List ℕ) → Unaltered (keysIn keys) h old f → h .count ≡ itemCount s → NoneCancels keys s h old
       → reportRows keys s f out ≡ rowsHolding (familyOf (h .code)) (changed old (item s)) (itemCount s)
   unfolding reportRows
-  report-rows-held h old U count free = held keys s f (length out) b passed h old U count free _ (done _ _)
+  report-rows-held h old U count free = rows-counted keys s f (length out) b passed h old U count free _ (done _ _)

@@ -1,38 +1,34 @@
 -- Request 2.14 of Report: two reports with the same keys against one file, whichever, of which neither is refused, are on messages of one count
 -- and one number, so that an item of the same bytes has the same hash in both; the rest is the drift theorem of crate incidence. And what it
--- is good for: the second report is refused only for its own message, a jump tells that more items differ, and where no row cancels the
--- bound is met.
-use Rattle.fips197.proofs.Kit.{_≡_, refl, sym, ap, _∙_, subst, true, false, not, List, ℕ, _+_, _*_, _≤_, _<_, arith, length}
+-- is good for: a jump tells that more items differ, and where no row cancels the bound is met. That it is not empty is Guarantees.antt:
+-- other-not-refused.
+use Rattle.fips197.proofs.Kit.{_≡_, refl, sym, ap, ap₂, _∙_, subst, true, false, List, ℕ, _+_, _*_, _≤_, _<_, arith, length}
 use Rattle.blocks.specs.Block.{Bytes, same}
-use Rattle.blocks.proofs.Xor.{same-eq}
 use Rattle.incidence.specs.Count.{countUpTo}
 use Rattle.incidence.specs.Family.{Family, holdsOne, rowsHolding}
 use Rattle.incidence.specs.Sum.{rowSum}
 use Rattle.incidence.specs.Report.{disagreeing}
 use Rattle.incidence.specs.Drift.{ApartAtMost}
-use Rattle.incidence.proofs.Booleans.{not-both}
-use Rattle.incidence.proofs.Counting.{count-none}
 use Rattle.incidence.proofs.Covering.{none-held}
 use Rattle.incidence.proofs.Drifting.{sum-kept, drifts}
 use Rattle.incidence.proofs.Rejects.{drifts-as, jump-tells}
 use Rattle.sizes.specs.Sizes.{planeCode, familyOf}
 use Rattle.sizes.proofs.Laws.{projective}
-use Rattle.stamp.specs.Front.{versionOf, stampOf}
+use Rattle.stamp.specs.Front.{versionOf}
 use Rattle.files.specs.Refusals.{none}
-use Rattle.files.specs.Message.{itemCount, item, refuse3, refuse5}
+use Rattle.files.specs.Message.{itemCount, item}
 use Rattle.files.specs.declared.tagfile.Head.{Head}
-use Rattle.files.specs.TagFile.{codeOf, refuse6, refuse20}
-use Rattle.files.proofs.Passing.{given, rest-passes}
-use Rattle.files.proofs.Accepted.{plain6, plain20}
+use Rattle.files.specs.TagFile.{codeOf}
+use Rattle.files.proofs.Passing.{given}
 use Rattle.tagging.specs.declared.Keys.{Keys}
 use Rattle.tagging.specs.Tagging.{keysIn, hashes}
-use Rattle.checks.specs.Refused.{verifyRefusal, reportRefusal}
+use Rattle.checks.specs.Refused.{reportRefusal}
 use Rattle.checks.specs.Passed.{Reportable}
 use Rattle.checks.proofs.Checking.{reportable, file-count}
 use Rattle.scheme.specs.Calls.{stampIn, sumFrom, sumExpanded, agrees, reportRows}
 use Rattle.scheme.specs.Claim.{Unaltered, changed, NoneCancels, RowsDrift, DriftClaim}
-use Rattle.scheme.proofs.Claiming.{hash-kept, report-rows-held}
-use Rattle.scheme.proofs.Guarantees.{report-not-refused}
+use Rattle.scheme.proofs.Claiming.{code-says, hash-kept, passed, report-rows-held}
+use Rattle.scheme.proofs.Guarantees.{unchanged-self, nothing-cancels, nothing-changed}
 
 -- ---- two reports that are not refused
 
@@ -81,45 +77,24 @@ reports-drift keys s t f out other p q =
 
 -- ---- what it is good for
 
--- where Verify refuses nothing, the file by itself is not refused
-file-accepted : (keys s f : List ℕ) → verifyRefusal keys s f .number ≡ 0 → (refuse6 f ≡ none) × (refuse20 (keysIn keys .seal) f ≡ none)
-unfolding verifyRefusal
-file-accepted keys s f z =
-    let a = rest-passes _ _ z in
-    let b = rest-passes _ _ (a .1) in
-    let c = rest-passes _ _ (b .1) in
-    let d = rest-passes _ _ (c .1) in
-    (plain6 f (d .0), plain20 (keysIn keys .seal) f (rest-passes _ _ (d .1) .0))
-
--- The claim is not empty: where one report is not refused, neither is another against that file on a message of the same count and number.
-pub other-not-refused : (keys s t f : List ℕ) (room other : ℕ) → reportRefusal keys s f room .number ≡ 0 → refuse3 t ≡ none → refuse5 t ≡ none
-    → itemCount t ≡ itemCount s → stampOf t .number ≡ stampOf s .number → itemCount t ≤ other → reportRefusal keys t f other ≡ none
-unfolding reportRefusal
-other-not-refused keys s t f room other z p q same number fits =
-    let R = reportable keys s f room _ refl z in
-    let a = file-accepted keys s f (rest-passes _ _ z .0) in
-    report-not-refused keys t f (R .files .keys48) p q (a .0) (a .1) (same ∙ R .files .counts) other (number ∙ R .files .numbers) fits
-
 -- On a plane, numbers of rows that are more than kd + 1 apart are those of messages that differ in more than k items, whatever cancels.
 pub jump-tells-more : (keys s f : List ℕ) (rows : ℕ) → DriftClaim keys s f rows → (t out : List ℕ) → reportRefusal keys t f (length out) .number ≡ 0
     → planeCode (codeOf f) ≡ true → (k : ℕ) → (ApartAtMost (k * familyOf (codeOf f) .limit + 1) rows (reportRows keys t f out) → ⊥)
     → k < countUpTo (changed (item s) (item t)) (itemCount s)
 jump-tells-more keys s f rows D t out z = jump-tells _ _ _ _ _ _ (D t out z)
 
-unchanged : (items : ℕ → List ℕ) (j : ℕ) → changed items items j ≡ false
-unfolding changed
-unchanged items j = ap not (same-eq (items j) (items j) refl)
-
--- The bound is met, so that no smaller one holds: against the unaltered file of the items of t, and where no row cancels between them and those
--- of s, the numbers are as far apart as there are rows that hold an item that differs.
+-- The bound by the rows that hold an item that differs is met where no row cancels: against the unaltered file of the items of t, the numbers
+-- for s and for t are just so far apart.
 pub bound-met : (keys s t f out other : List ℕ) → Bytes keys → reportRefusal keys s f (length out) ≡ none → reportRefusal keys t f (length other) ≡ none
-    → (h : Head) → Unaltered (keysIn keys) h (item t) f → h .count ≡ itemCount s → h .count ≡ itemCount t → NoneCancels keys s h (item t)
-    → reportRows keys s f out ≡ reportRows keys t f other + rowsHolding (familyOf (h .code)) (changed (item t) (item s)) (itemCount s)
-bound-met keys s t f out other b p q h U cs ct free =
-    let F = familyOf (h .code) in
+    → (h : Head) → Unaltered (keysIn keys) h (item t) f → h .count ≡ itemCount t → NoneCancels keys s h (item t)
+    → reportRows keys s f out ≡ reportRows keys t f other + rowsHolding (familyOf (codeOf f)) (changed (item t) (item s)) (itemCount t)
+bound-met keys s t f out other b p q h U count free =
+    let many = passed keys t f other b q .files .counts ∙ sym (passed keys s f out b p .files .counts) in
+    let same : (j : ℕ) → 1 ≤ j → j ≤ itemCount t → changed (item t) (item t) j ≡ false = λ j l u. unchanged-self (item t) j in
     omega (
       arith,
-      report-rows-held keys s f out b p h (item t) U cs free,
-      report-rows-held keys t f other b q h (item t) U ct (λ i w. not-both _ (w .changes) (unchanged (item t) (w .at))),
-      none-held F (changed (item t) (item t)) (itemCount t) (count-none _ (itemCount t) (λ j l u e. not-both _ e (unchanged (item t) j))),
+      report-rows-held keys s f out b p h (item t) U (count ∙ many) free,
+      report-rows-held keys t f other b q h (item t) U count (nothing-cancels t (item t) same keys h),
+      none-held (familyOf (h .code)) (changed (item t) (item t)) (itemCount t) (nothing-changed t (item t) same),
+      ap₂ (λ (x m : ℕ). rowsHolding (familyOf x) (changed (item t) (item s)) m) (code-says keys h (item t) f U) many,
     )

@@ -1,7 +1,7 @@
 -- What follows from the definitions of the calls, for a reader who wants to know what they are good for: Tag's file is accepted and
 -- verified, a report against an unaltered file of any version is not refused, but by 25 where the numbers differ, Replace is tagging afresh,
 -- demand 3 is met by no report that names every item, none, or says "beyond" of an unchanged message, and what the number of rows tells.
-use Rattle.fips197.proofs.Kit.{_≡_, refl, sym, ap, _∙_, Bool, true, false, List, [], _∷_, _++_, _↔_, ℕ, suc, _+_, _*_, _≤_, _<_, arith, length, drop, eq-eqb, ne-eqb, le-leb, lt-ltb}
+use Rattle.fips197.proofs.Kit.{_≡_, refl, sym, ap, _∙_, Bool, true, false, not, List, [], _∷_, _++_, _↔_, ℕ, suc, _+_, _*_, _≤_, _<_, arith, length, drop, eq-eqb, ne-eqb, le-leb, lt-ltb}
 use Rattle.blocks.specs.Block.{if_then_else_, Bytes, _⊕_, same, listOf}
 use Rattle.blocks.proofs.Xor.{same-true, same-eq, take-bytes, drop-bytes, ⊕-assoc}
 use Rattle.incidence.specs.Count.{countUpTo}
@@ -10,7 +10,7 @@ use Rattle.incidence.specs.Sum.{rowSum}
 use Rattle.incidence.specs.declared.Answer.{Answer}
 use Rattle.incidence.specs.declared.Answer.the-variants.{Intact, Beyond}
 use Rattle.incidence.proofs.Booleans.{not-both, and-both}
-use Rattle.incidence.proofs.Counting.{Found, found}
+use Rattle.incidence.proofs.Counting.{Found, found, count-none}
 use Rattle.incidence.proofs.Sums.{rowSum-same, rowSum-change}
 use Rattle.incidence.proofs.Rejects as rejects
 use Rattle.sizes.specs.Sizes.{planeCode, familyOf}
@@ -24,7 +24,8 @@ use Rattle.files.specs.Message.{itemsAt, itemCount, item, itemStart, itemSize, 
 use Rattle.files.specs.declared.tagfile.Head.{Head}
 use Rattle.files.specs.TagFile.{newestTagFile, stampFor, fileSize, codeOf, countOf, headOf, tagsIn, countFits, refuse6, refuse20}
 use Rattle.files.specs.Arguments.{refuse1, refuse7, refuse9}
-use Rattle.files.proofs.Passing.{first-here, first-later, first-none, unless-true, unless-false, given}
+use Rattle.files.proofs.Passing.{first-here, first-later, first-none, rest-passes, unless-true, unless-false, given}
+use Rattle.files.proofs.Accepted.{plain6, plain20}
 use Rattle.keyed.specs.Keyed.{itemHash, tagOf}
 use Rattle.tagging.specs.Tagging.{keysIn, hashes, tagSum, fileOf, tagFile, tagHead}
 use Rattle.tagging.proofs.Writing.{file-same}
@@ -64,6 +65,41 @@ module _ (keys s f : List ℕ) (h : length keys ≡ 48) (a : refuse3 s ≡ none)
   verify-differs n =
       verify-last ∙ ap (λ (r : Refusal). first (r ∷ [])) (unless-false _ 25 0 (ne-eqb (stampOf s .number) (stampOf f .number) n))
       ∙ first-here (refusal 25 0) [] (λ (z : 25 ≡ 0). omega arith)
+
+-- where Verify refuses nothing, the file by itself is not refused
+file-accepted : (keys s f : List ℕ) → verifyRefusal keys s f .number ≡ 0 → (refuse6 f ≡ none) × (refuse20 (keysIn keys .seal) f ≡ none)
+unfolding verifyRefusal
+file-accepted keys s f z =
+    let a = rest-passes _ _ z in
+    let b = rest-passes _ _ (a .1) in
+    let c = rest-passes _ _ (b .1) in
+    let d = rest-passes _ _ (c .1) in
+    (plain6 f (d .0), plain20 (keysIn keys .seal) f (rest-passes _ _ (d .1) .0))
+
+-- Where one report is not refused, neither is another against that file on a message of the same count and number.
+pub other-not-refused : (keys s t f : List ℕ) (room other : ℕ) → reportRefusal keys s f room .number ≡ 0 → refuse3 t ≡ none → refuse5 t ≡ none
+    → itemCount t ≡ itemCount s → stampOf t .number ≡ stampOf s .number → itemCount t ≤ other → reportRefusal keys t f other ≡ none
+unfolding reportRefusal
+other-not-refused keys s t f room other z p q as-many number fits =
+    let R = reportable keys s f room _ refl z in
+    let a = file-accepted keys s f (rest-passes _ _ z .0) in
+    report-not-refused keys t f (R .files .keys48) p q (a .0) (a .1) (as-many ∙ R .files .counts) other (number ∙ R .files .numbers) fits
+
+-- ---- nothing changed
+
+pub unchanged-self : (items : ℕ → List ℕ) (j : ℕ) → changed items items j ≡ false
+unfolding changed
+unchanged-self items j = ap not (same-eq (items j) (items j) refl)
+
+-- a message none of whose items changed: none is counted, and no row cancels
+module _ (s : List ℕ) (old : ℕ → List ℕ) (same : (j : ℕ) → 1 ≤ j → j ≤ itemCount s → changed old (item s) j ≡ false) where
+  pub nothing-changed : countUpTo (changed old (item s)) (itemCount s) ≡ 0
+  nothing-changed = count-none (changed old (item s)) (itemCount s) (λ j l u t. not-both _ t (same j l u))
+
+  pub nothing-cancels : (keys : List ℕ) (h : Head) → NoneCancels keys s h old
+  nothing-cancels keys h i c = not-both _ (c .changes) (same (c .at) (c .at-low) (c .at-high))
+
+-- ---- against an unaltered file
 
 -- a message that is not refused itself, and the unaltered file, in any version, of old items of the same count under these keys
 module _ (keys s f : List ℕ) (b : Bytes keys) (k48 : length keys ≡ 48) (p : refuse3 s ≡ none) (q : refuse5 s ≡ none) (h : Head) (old : ℕ → List ℕ)

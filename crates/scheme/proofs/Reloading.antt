@@ -3,16 +3,15 @@
 -- says "intact".
 use Rattle.fips197.proofs.Kit.{_≡_, refl, sym, ap, _∙_, Bool, true, false, not, List, ℕ, _≤_, arith, length}
 use Rattle.blocks.specs.Block.{if_then_else_, Bytes, same}
-use Rattle.blocks.proofs.Xor.{same-eq}
 use Rattle.incidence.specs.Count.{countUpTo}
 use Rattle.incidence.specs.declared.Answer.the-variants.{Intact}
 use Rattle.incidence.proofs.Booleans.{not-both, not-passed}
-use Rattle.incidence.proofs.Counting.{count-none}
 use Rattle.incidence.proofs.Covering.{few-covered}
 use Rattle.incidence.proofs.Rejects.{none-left-out}
 use Rattle.sizes.specs.Sizes.{familyOf}
 use Rattle.sizes.proofs.Laws.{lawful}
 use Rattle.stamp.specs.Front.{stampOf}
+use Rattle.files.specs.declared.Refusal.{Refusal}
 use Rattle.files.specs.Refusals.{none}
 use Rattle.files.specs.Message.{itemCount, item, refuse3, refuse5}
 use Rattle.files.specs.declared.tagfile.Head.{Head}
@@ -21,8 +20,8 @@ use Rattle.checks.specs.Refused.{reportRefusal}
 use Rattle.checks.specs.Passed.{Reportable}
 use Rattle.scheme.specs.Calls.{reportWrites, reportAnswer}
 use Rattle.scheme.specs.Claim.{Unaltered, changed, marked, NoneCancels, NameClaim, reloaded}
-use Rattle.scheme.proofs.Claiming.{fit, is-known, many, passed, report-detects, report-names}
-use Rattle.scheme.proofs.Guarantees.{report-passes, same-number}
+use Rattle.scheme.proofs.Claiming.{is-known, many, passed, report-detects, report-names}
+use Rattle.scheme.proofs.Guarantees.{other-not-refused, unchanged-self, nothing-cancels, nothing-changed}
 
 -- ---- the list
 
@@ -38,7 +37,7 @@ module _ (keys s f marks : List ℕ) (N : NameClaim keys s f marks) (h : Head) (
   none-changed j l u = go (marked marks j) refl
     where
       go : (b : Bool) → marked marks j ≡ b → not (same (old j) (if b then old j else item s j)) ≡ false
-      go true e = ap not (same-eq (old j) (old j) refl)
+      go true e = unchanged-self old j
       go false e = not-passed _ (λ c. not-both (marked marks j) (changed-named j l u c) e)
 
 -- ---- of a report that is not refused
@@ -64,9 +63,7 @@ module _ (keys s f out : List ℕ) (b : Bytes keys) (e : reportRefusal keys s f 
       (out′ : List ℕ) (room : itemCount s ≤ length out′) where
     -- a report on it is not refused
     pub reload-passes : reportRefusal keys s′ f (length out′) ≡ none
-    reload-passes =
-        report-passes keys s′ f b (R .files .keys48) head whole h old U (fit keys s f (length out) b R h old U count) (count ∙ sym as-many) (length out′)
-        (number ∙ same-number keys s f (length out) h old e U) (omega arith)
+    reload-passes = other-not-refused keys s s′ f (length out) (length out′) (ap (λ (r : Refusal). r .number) e) head whole as-many number (omega arith)
 
     -- it holds the items as reloaded
     module _ (free : NoneCancels keys s h old) (items : (j : ℕ) → 1 ≤ j → j ≤ itemCount s → item s′ j ≡ reloaded (reportWrites keys s f out) old (item s) j) where
@@ -80,5 +77,4 @@ module _ (keys s f out : List ℕ) (b : Bytes keys) (e : reportRefusal keys s f 
       pub reload-intact : reportAnswer keys s′ f out′ ≡ Intact
       reload-intact =
           report-detects keys s′ f out′ b reload-passes h old U (count ∙ sym as-many) .0
-          .intact (λ i c. not-both (changed old (item s′) (c .at)) (c .changes) (unchanged (c .at) (c .at-low) (c .at-high)))
-          .1 (count-none (changed old (item s′)) (itemCount s′) (λ j l u t. not-both (changed old (item s′) j) t (unchanged j l u)))
+          .intact (nothing-cancels s′ old unchanged keys h) .1 (nothing-changed s′ old unchanged)

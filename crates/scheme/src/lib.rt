@@ -235,8 +235,8 @@ fn decode_files(s: &[u8], f: &[u8], sums: &mut [u8], marks: &mut [u8]) -> Decode
 // Report: writes a mark for each item of the message, 1 named and 0 cleared, to the front of marks; the bytes behind stay.
 // Refuses as Verify, then 7, the first that applies; marks are then as they were, the answer is Beyond and the numbers are 0.
 // The clause `detection` is demand 3; `counting` says what the number of rows means on a plane (document 02, 2.2), `naming` what the marks
-// mean at every size, however many they are (2.13), and `drifting` how far the number of rows is from that of another report against the
-// same file (2.14).
+// mean at every size, however many they are (2.13), and `drifting` how far at most the number of rows is from that of another report with
+// the same keys against the same file (2.14).
 pub fn report(keys: &[u8], message: &[u8], file: &[u8], marks: &mut [u8]) -> Reported
     ensures refused { λ r. ⌜ r .refused ≡ reportRefusal (now (keys .entry)) (now (message .entry)) (now (file .entry)) (length (now (marks .entry))) ⌝ }
     ensures written { λ _. ⌜ now (marks .exit) ≡ reportWrites (now (keys .entry)) (now (message .entry)) (now (file .entry)) (now (marks .entry)) ⌝ }

@@ -12,7 +12,7 @@ use session::Session;
 ghost use Prim.Native.Nat.{_≤_};
 ghost use lib.ListN.{length};
 
-// The calls by their numbers, with eight bytes for each.
+// The calls by their numbers, with eight bytes for each. The last is a run of reports.
 pub const NAMES: [u8; 72] =
     *b"Tag     Verify  Report  Replace Fetch   begin   put     close   Drift   ";
 

@@ -192,7 +192,7 @@ fn first_card(bytes: &[u8]) -> usize
     message::items_at(stamp::version_of(bytes)) + 2
 }
 
-// Alters card j of a shelf of short cards; 0 and 274 are none.
+// Alters card j of a shelf of short cards; j is taken modulo 274, and 0 is none.
 pub fn alter_card(bytes: &mut [u8], j: u64)
     requires { ⌜ 72192 ≤ length (now bytes) ⌝ }
 {

@@ -1,7 +1,7 @@
 -- What the call says, packed, with demand 3 and requests 2.2 and 2.14 of it (Packing), and request 2.13 of the marks, which are as Report left
 -- them.
 use Rattle.fips197.proofs.Kit.{_∙_, needs}
-use Rattle.firmware.proofs.Packing.{word-is, report-read, claim-packed, rows-same, rows-packed, drift-read}
+use Rattle.firmware.proofs.Packing.{packed-is, report-read, claim-packed, rows-as-read, rows-packed, drift-read}
 use Rattle.firmware.proofs.gtm_report.Statement.{statement}
 use Rattle.firmware.proofs.gtm_report.Tie as tie
 
@@ -13,7 +13,7 @@ returns c =
     let w = c .pack-report .ensures .0 in
     let z = c .pack-report .ensures .1 in
     let a = e .1 .1 in (
-      w ∙ word-is _ _ _ _ _ _ _ _ (e .0) (a .0) (a .1 .0) (a .1 .1 .0),
+      w ∙ packed-is _ _ _ _ _ _ _ _ (e .0) (a .0) (a .1 .0) (a .1 .1 .0),
       (
         e .1 .0,
         (
@@ -27,7 +27,7 @@ returns c =
               (
                 λ q. a .1 .1 .1 .1 .1 .0 (z q),
                 λ q. drift-read (d .args .keys .now) (d .args .message .now) (d .args .tagfile .now) _ _
-                    (rows-same (d .args .keys .now) (d .args .message .now) (d .args .tagfile .now) (d .args .marks .now) _ _ _ _ _ (e .0) (a .0) (a .1 .0) (a .1 .1 .0) w z q)
+                    (rows-as-read (d .args .keys .now) (d .args .message .now) (d .args .tagfile .now) (d .args .marks .now) _ _ _ _ _ (e .0) (a .0) (a .1 .0) (a .1 .1 .0) w z q)
                     (a .1 .1 .1 .1 .1 .1 (z q)),
               ),
             ),
