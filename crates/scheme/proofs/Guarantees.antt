@@ -1,6 +1,7 @@
 -- What follows from the definitions of the calls, for a reader who wants to know what they are good for: Tag's file is accepted and
--- verified, a report against an unaltered file of any version is not refused, but by 25 where the numbers differ, Replace is tagging afresh,
--- demand 3 is met by no report that names every item, none, or says "beyond" of an unchanged message, and what the number of rows tells.
+-- verified, a report against an unaltered file of any version is not refused, but by 25 where the numbers differ, nor is a second one against
+-- the file of a first, Replace is tagging afresh, demand 3 is met by no report that names every item, none, or says "beyond" of an unchanged
+-- message, and what the number of rows tells.
 use Rattle.fips197.proofs.Kit.{_≡_, refl, sym, ap, _∙_, Bool, true, false, not, List, [], _∷_, _++_, _↔_, ℕ, suc, _+_, _*_, _≤_, _<_, arith, length, drop, eq-eqb, ne-eqb, le-leb, lt-ltb}
 use Rattle.blocks.specs.Block.{if_then_else_, Bytes, _⊕_, same, listOf}
 use Rattle.blocks.proofs.Xor.{same-true, same-eq, take-bytes, drop-bytes, ⊕-assoc}
