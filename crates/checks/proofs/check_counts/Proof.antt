@@ -1,5 +1,5 @@
 -- Both counts stand in files that are not refused.
-use Rattle.fips197.proofs.Kit.{ap₂, ap, ◌∙◌, ℕ, arith, eqb, needs}
+use Rattle.fips197.proofs.Kit.{ap₂, ap, ◌∙◌, ℕ, arith, eqb, rules}
 use Rattle.files.specs.Refusals.{unless}
 use Rattle.files.specs.declared.tagfile.Head.{Head}
 use Rattle.files.specs.TagFile.{head_of}
@@ -19,4 +19,4 @@ pub check-counts-spec : {M : Type 1} → statement M
 check-counts-spec =
     tie.close
     (tie.spec (λ c κs. omega (arith, formed _ c.before.before.requires.1))
-    (λ c κs. omega (arith, headed _ c.before.before.before.requires.0)) (λ c κs. search needs) returns)
+    (λ c κs. omega (arith, headed _ c.before.before.before.requires.0)) (λ c κs. search rules) returns)

@@ -1,5 +1,5 @@
 -- Both numbers stand in files that are not refused.
-use Rattle.fips197.proofs.Kit.{ap₂, ◌∙◌, arith, eqb, needs}
+use Rattle.fips197.proofs.Kit.{ap₂, ◌∙◌, arith, eqb, rules}
 use Rattle.stamp.specs.declared.Stamp.{Stamp}
 use Rattle.files.specs.Message.{items_at}
 use Rattle.files.specs.TagFile.{tags_at}
@@ -21,4 +21,4 @@ unfolding items_at tags_at
 check-numbers-spec =
     tie.close
     (tie.spec (λ c κs. omega (arith, headed _ c.before.before.requires.0))
-    (λ c κs. omega (arith, formed _ c.before.before.before.requires.1)) (λ c κs. search needs) returns)
+    (λ c κs. omega (arith, formed _ c.before.before.before.requires.1)) (λ c κs. search rules) returns)

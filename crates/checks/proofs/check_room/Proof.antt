@@ -1,5 +1,5 @@
 -- The length of the message's tag file.
-use Rattle.fips197.proofs.Kit.{ap, ◌∙◌, arith, ℕ, needs}
+use Rattle.fips197.proofs.Kit.{ap, ◌∙◌, arith, ℕ, rules}
 use Rattle.files.specs.Arguments.{refuse7}
 use Rattle.files.specs.TagFile.{file_size}
 use Rattle.files.proofs.Messages.{headed}
@@ -15,4 +15,4 @@ returns c =
 pub check-room-spec : {M : Type 1} → statement M
 check-room-spec =
     tie.close
-    (tie.spec (λ c κs. omega (arith, headed _ c.before.requires)) (λ c κs. search needs) (λ c κs. search needs) returns)
+    (tie.spec (λ c κs. omega (arith, headed _ c.before.requires)) (λ c κs. search rules) (λ c κs. search rules) returns)

@@ -1,5 +1,5 @@
 -- The first of 1, 3, 5, 6, 20, 21 and 25 that applies (Passing).
-use Rattle.fips197.proofs.Kit.{◌≡◌, [], ◌∷◌, length, needs}
+use Rattle.fips197.proofs.Kit.{◌≡◌, [], ◌∷◌, length, rules}
 use Rattle.files.specs.Refusals.{first}
 use Rattle.files.specs.Message.{refuse3, refuse5}
 use Rattle.files.specs.TagFile.{refuse6}
@@ -29,10 +29,10 @@ pub verify-refusal-spec : {M : Type 1} → statement M
 unfolding verify_refusal
 verify-refusal-spec =
     tie.close
-    (tie.spec (search needs) (search needs) (search needs) (λ c. rw run2 (stop _ _ _ (search listed depth 12) c.if1.true))
-    (λ c κs. search passes2) (search needs) (search needs)
+    (tie.spec (search rules) (search rules) (search rules) (λ c. rw run2 (stop _ _ _ (search listed depth 12) c.if1.true))
+    (λ c κs. search passes2) (search rules) (search rules)
     (λ c. rw (run2, run3) (stop _ _ _ (search listed depth 12) c.if2.true))
-    (λ c κs. (search needs, (search passes1, passes3 _ _ _ _ _ _ c.before.before.before.check.ensures c.before.before.first3.ensures c.if2.false)))
+    (λ c κs. (search rules, (search passes1, passes3 _ _ _ _ _ _ c.before.before.before.check.ensures c.before.before.first3.ensures c.if2.false)))
     (λ c κs. (search passes2, passes3 _ _ _ _ _ _ c.before.before.before.before.check.ensures c.before.before.before.first3.ensures c.before.if2.false))
     (λ c κs. (search passes2, passes3 _ _ _ _ _ _ c.before.before.before.before.before.check.ensures c.before.before.before.before.first3.ensures c.before.before.if2.false))
-    (search needs) returns-3)
+    (search rules) returns-3)

@@ -1,6 +1,6 @@
 -- Each array holds what the next call asks; the steps of the quotient are the pattern (Deriving). In the answers d, e, g and f are the
 -- places behind the calls that write D(x), x^m + 1, their divisor and x^m + 1 again, and s is the start.
-use Rattle.fips197.proofs.Kit.{ap, ◌∙◌, List, ◌++◌, ℕ, suc, arith, length, drop, needs}
+use Rattle.fips197.proofs.Kit.{ap, ◌∙◌, List, ◌++◌, ℕ, suc, arith, length, drop, rules}
 use Rattle.polynomials.proofs.Dividing.{zeros-long}
 use Rattle.cyclic.proofs.Deriving.{zeros-modulus, steps_pattern}
 use Rattle.cyclic.proofs.derive.Statement.{statement}
@@ -51,5 +51,5 @@ returns c =
 pub derive-spec : {M : Type 1} → statement M
 derive-spec =
     tie.close
-    (tie.spec (λ c κs. search needs) (λ c κs. search needs) gcd-requires (λ c κs. search needs) divide-requires put-steps-requires
-    (λ c. search needs) (λ c. search needs) (λ c. search needs) (λ c. search needs) (λ c. search needs) returns)
+    (tie.spec (λ c κs. search rules) (λ c κs. search rules) gcd-requires (λ c κs. search rules) divide-requires put-steps-requires
+    (λ c. search rules) (λ c. search rules) (λ c. search rules) (λ c. search rules) (λ c. search rules) returns)

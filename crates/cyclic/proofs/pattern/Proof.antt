@@ -1,5 +1,5 @@
 -- Where the call refuses, nothing is done (Deriving); else the fronts of the four arrays are m + 1 zeros.
-use Rattle.fips197.proofs.Kit.{◌≡◌, true, ⊎_elim, arith, length, ltb-false, needs}
+use Rattle.fips197.proofs.Kit.{◌≡◌, true, ⊎_elim, arith, length, ltb-false, rules}
 use Rattle.cyclic.specs.Deriving.{refuses}
 use Rattle.cyclic.proofs.Deriving.{lent_zeros, refuses-none, refuses-many, refuses-short, refuses-not, not-derived, none_written, is_derived, is_written}
 use Rattle.cyclic.proofs.pattern.Statement.{statement}
@@ -51,6 +51,6 @@ returns-2 c =
 pub pattern-spec : {M : Type 1} → statement M
 pattern-spec =
     tie.close
-    (tie.spec returns add-w (λ c. search needs) (λ c. search needs) part-d-end (λ c. search needs) (λ c. search needs) part-e-end
-    (λ c. search needs) (λ c. search needs) part-f-end (λ c. search needs) (λ c. search needs) part-h-end derive-requires
-    (λ c. search needs) returns-2)
+    (tie.spec returns add-w (λ c. search rules) (λ c. search rules) part-d-end (λ c. search rules) (λ c. search rules) part-e-end
+    (λ c. search rules) (λ c. search rules) part-f-end (λ c. search rules) (λ c. search rules) part-h-end derive-requires
+    (λ c. search rules) returns-2)

@@ -1,5 +1,5 @@
 -- The difference, looked at.
-use Rattle.fips197.proofs.Kit.{needs}
+use Rattle.fips197.proofs.Kit.{rules}
 use Rattle.blocks.specs.Block.{slot}
 use Rattle.sums.specs.Adding.{sum_in}
 use Rattle.decoding.specs.Decoding.{agrees_in}
@@ -11,4 +11,4 @@ unfolding agrees_in sum_in slot
 returns c = c.is_zero.ensures
 
 pub agree-spec : {M : Type 1} → statement M
-agree-spec = tie.close (tie.spec (λ c. search needs) (λ c. search needs) (λ c κs. search needs) returns)
+agree-spec = tie.close (tie.spec (λ c. search rules) (λ c. search rules) (λ c κs. search rules) returns)

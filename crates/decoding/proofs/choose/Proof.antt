@@ -1,5 +1,5 @@
 -- By its tests (incidence Reports).
-use Rattle.fips197.proofs.Kit.{sym, ap, ◌∙◌, ⊎_elim, ◌≤◌, ◌<◌, arith, leb, leb-true, le-leb, not-true, not-false, needs}
+use Rattle.fips197.proofs.Kit.{sym, ap, ◌∙◌, ⊎_elim, ◌≤◌, ◌<◌, arith, leb, leb-true, le-leb, not-true, not-false, rules}
 use Rattle.incidence.proofs.Booleans.{not_both}
 use Rattle.incidence.proofs.Reports.{answer-intact, answer-named, answer-beyond}
 use Rattle.decoding.proofs.choose.Statement.{statement}
@@ -28,4 +28,4 @@ returns-3 c =
     c.if2.branch
 
 pub choose_spec : {M : Type 1} → statement M
-choose_spec = tie.close (tie.spec returns (λ c κs. search needs) (λ c κs. search needs) returns-2 returns-3)
+choose_spec = tie.close (tie.spec returns (λ c κs. search rules) (λ c κs. search rules) returns-2 returns-3)

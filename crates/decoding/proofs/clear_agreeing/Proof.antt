@@ -1,5 +1,5 @@
 -- Each turn takes one row (Picking).
-use Rattle.fips197.proofs.Kit.{not, ◌+◌, ◌-◌, ◌≤◌, arith, needs}
+use Rattle.fips197.proofs.Kit.{not, ◌+◌, ◌-◌, ◌≤◌, arith, rules}
 use Rattle.incidence.proofs.Counting.{bit-most}
 use Rattle.sizes.specs.Sizes.{family_of}
 use Rattle.decoding.specs.Decoding.{agrees_in}
@@ -45,5 +45,5 @@ returns c =
 pub clear-agreeing-spec : {M : Type 1} → statement M
 clear-agreeing-spec =
     tie.close
-    (tie.spec invariant-loop decreases-loop loop-holds take-row-requires add-others (λ c. search needs) (λ c. search needs) loop-again
-    (λ c. search needs) returns)
+    (tie.spec invariant-loop decreases-loop loop-holds take-row-requires add-others (λ c. search rules) (λ c. search rules) loop-again
+    (λ c. search rules) returns)

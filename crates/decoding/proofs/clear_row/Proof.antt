@@ -1,5 +1,5 @@
 -- Each turn clears one item of the row (Picking).
-use Rattle.fips197.proofs.Kit.{◌-◌, ◌≤◌, arith, needs}
+use Rattle.fips197.proofs.Kit.{◌-◌, ◌≤◌, arith, rules}
 use Rattle.incidence.specs.Family.{items_of}
 use Rattle.sizes.specs.Sizes.{family_of}
 use Rattle.sizes.proofs.Laws.{item_list_few, written_at}
@@ -61,5 +61,5 @@ returns c =
 pub clear-row-spec : {M : Type 1} → statement M
 clear-row-spec =
     tie.close
-    (tie.spec invariant-loop decreases-loop (λ c κs. search needs) loop-holds mul-clear-item array-read-clear-item clear-item-requires
-    (λ c. search needs) (λ c. search needs) loop-again (λ c. search needs) returns)
+    (tie.spec invariant-loop decreases-loop (λ c κs. search rules) loop-holds mul-clear-item array-read-clear-item clear-item-requires
+    (λ c. search rules) (λ c. search rules) loop-again (λ c. search rules) returns)

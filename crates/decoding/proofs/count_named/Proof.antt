@@ -1,5 +1,5 @@
 -- Each turn counts one item, or not (Picking).
-use Rattle.fips197.proofs.Kit.{◌≡◌, ◌∙◌, ⊎_elim, ◌-◌, ◌≤◌, arith, needs}
+use Rattle.fips197.proofs.Kit.{◌≡◌, ◌∙◌, ⊎_elim, ◌-◌, ◌≤◌, arith, rules}
 use Rattle.incidence.specs.Count.{count_up_to}
 use Rattle.incidence.proofs.Counting.{count_most}
 use Rattle.decoding.specs.Decoding.{is_marked}
@@ -37,5 +37,5 @@ returns c =
 pub count-named-spec : {M : Type 1} → statement M
 count-named-spec =
     tie.close
-    (tie.spec invariant-loop decreases-loop (λ c. search needs) (λ c. search needs) add-found (λ c. search needs) (λ c. search needs) loop-again
+    (tie.spec invariant-loop decreases-loop (λ c. search rules) (λ c. search rules) add-found (λ c. search rules) (λ c. search rules) loop-again
     returns)

@@ -1,5 +1,5 @@
 -- All items are marked, those that an agreeing row holds are cleared, and the rest follows from the marks (Marks).
-use Rattle.fips197.proofs.Kit.{ap, ◌∙◌, arith, needs}
+use Rattle.fips197.proofs.Kit.{ap, ◌∙◌, arith, rules}
 use Rattle.incidence.specs.Report.{named, disagreeing}
 use Rattle.sizes.specs.Sizes.{family_of}
 use Rattle.decoding.specs.Decoding.{agrees_in}
@@ -34,5 +34,5 @@ returns c =
 pub decode-spec : {M : Type 1} → statement M
 decode-spec =
     tie.close
-    (tie.spec (λ c κs. search needs) (λ c κs. search needs) clear-agreeing-requires (λ c κs. search needs) (λ c κs. search needs)
-    (λ c. search needs) returns)
+    (tie.spec (λ c κs. search rules) (λ c κs. search rules) clear-agreeing-requires (λ c κs. search rules) (λ c κs. search rules)
+    (λ c. search rules) returns)

@@ -1,5 +1,5 @@
 -- Every row agrees, or the rows are filled in and decoded (Agreeing, Marks).
-use Rattle.fips197.proofs.Kit.{sym, ap, ◌∙◌, List, ℕ, ◌++◌, arith, drop, needs}
+use Rattle.fips197.proofs.Kit.{sym, ap, ◌∙◌, List, ℕ, ◌++◌, arith, drop, rules}
 use Rattle.blocks.specs.Block.{all_zero}
 use Rattle.incidence.proofs.Differences.{none-disagree, answer_agreeing, none_counted}
 use Rattle.incidence.proofs.Rowwise.{number_named_ext, disagreeing_ext, answer_ext}
@@ -55,5 +55,5 @@ returns-2 c =
 pub decode-tags-spec : {M : Type 1} → statement M
 decode-tags-spec =
     tie.close
-    (tie.spec (λ c κs. search needs) all-zero-requires (λ c κs. search needs) (λ c. search needs) (λ c. search needs) returns
-    (λ c κs. search needs) decode-requires (λ c. search needs) (λ c. search needs) returns-2)
+    (tie.spec (λ c κs. search rules) all-zero-requires (λ c κs. search rules) (λ c. search rules) (λ c. search rules) returns
+    (λ c κs. search rules) decode-requires (λ c. search rules) (λ c. search rules) returns-2)

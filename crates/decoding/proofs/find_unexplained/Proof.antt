@@ -1,5 +1,5 @@
 -- Each turn tests one row (Picking).
-use Rattle.fips197.proofs.Kit.{◌≡◌, refl, sym, ap, ◌∙◌, false, ◌+◌, ◌-◌, ◌≤◌, arith, needs}
+use Rattle.fips197.proofs.Kit.{◌≡◌, refl, sym, ap, ◌∙◌, false, ◌+◌, ◌-◌, ◌≤◌, arith, rules}
 use Rattle.incidence.specs.Count.{any_up_to}
 use Rattle.incidence.proofs.Counting.{any_some}
 use Rattle.sizes.specs.Sizes.{family_of}
@@ -49,5 +49,5 @@ returns-2 c =
 pub find-unexplained-spec : {M : Type 1} → statement M
 find-unexplained-spec =
     tie.close
-    (tie.spec invariant-loop decreases-loop (λ c κs. search needs) loop-holds (λ c. search needs) is-unexplained-requires returns
-    (λ c. search needs) loop-again returns-2)
+    (tie.spec invariant-loop decreases-loop (λ c κs. search rules) loop-holds (λ c. search rules) is-unexplained-requires returns
+    (λ c. search rules) loop-again returns-2)

@@ -1,5 +1,5 @@
 -- Each turn looks at one item of the row (Picking).
-use Rattle.fips197.proofs.Kit.{◌∙◌, sym, ◌-◌, ◌≤◌, arith, needs}
+use Rattle.fips197.proofs.Kit.{◌∙◌, sym, ◌-◌, ◌≤◌, arith, rules}
 use Rattle.incidence.specs.Family.{items_of}
 use Rattle.sizes.specs.Sizes.{family_of}
 use Rattle.sizes.proofs.Laws.{item_list_few, written_at}
@@ -68,5 +68,5 @@ returns-2 c =
 pub holds-named-spec : {M : Type 1} → statement M
 holds-named-spec =
     tie.close
-    (tie.spec invariant-loop decreases-loop (λ c κs. search needs) loop-holds mul-is-named array-read-is-named is-named-requires returns
-    (λ c. search needs) (λ c. search needs) loop-again returns-2)
+    (tie.spec invariant-loop decreases-loop (λ c κs. search rules) loop-holds mul-is-named array-read-is-named is-named-requires returns
+    (λ c. search rules) (λ c. search rules) loop-again returns-2)

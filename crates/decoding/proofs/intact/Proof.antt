@@ -1,5 +1,5 @@
 -- All marks are 0 (Marks).
-use Rattle.fips197.proofs.Kit.{refl, ap, ◌∙◌, false, List, ℕ, ◌++◌, drop, needs}
+use Rattle.fips197.proofs.Kit.{refl, ap, ◌∙◌, false, List, ℕ, ◌++◌, drop, rules}
 use Rattle.decoding.proofs.Marks.{marked-list, marks-none}
 use Rattle.decoding.proofs.intact.Statement.{statement}
 use Rattle.decoding.proofs.intact.Tie as tie
@@ -14,4 +14,4 @@ returns c =
     )
 
 pub intact-spec : {M : Type 1} → statement M
-intact-spec = tie.close (tie.spec (λ c κs. search needs) (λ c. search needs) returns)
+intact-spec = tie.close (tie.spec (λ c κs. search rules) (λ c. search rules) returns)

@@ -1,5 +1,5 @@
 -- By its two tests.
-use Rattle.fips197.proofs.Kit.{◌∙◌, sym, ap, ap₂, Bool, not, ◌&&◌, needs}
+use Rattle.fips197.proofs.Kit.{◌∙◌, sym, ap, ap₂, Bool, not, ◌&&◌, rules}
 use Rattle.incidence.specs.Family.{holds_one}
 use Rattle.sizes.specs.Sizes.{family_of}
 use Rattle.decoding.specs.Decoding.{is_marked, unexplained_in}
@@ -17,4 +17,4 @@ returns-2 c =
     c.if1.false ∙ ap (λ (t : Bool). t && not (holds_one (family_of d.args.code) (is_marked d.args.marks.now) d.args.n d.args.i)) (sym c.if1.false ∙ ap not c.before.agree.ensures)
 
 pub is-unexplained-spec : {M : Type 1} → statement M
-is-unexplained-spec = tie.close (tie.spec (λ c κs. search needs) (λ c κs. search needs) returns returns-2)
+is-unexplained-spec = tie.close (tie.spec (λ c κs. search rules) (λ c κs. search rules) returns returns-2)

@@ -1,5 +1,5 @@
 -- Each turn marks one item (Marks).
-use Rattle.fips197.proofs.Kit.{◌-◌, ◌≤◌, arith, needs}
+use Rattle.fips197.proofs.Kit.{◌-◌, ◌≤◌, arith, rules}
 use Rattle.decoding.specs.Decoding.{Marked}
 use Rattle.decoding.proofs.Marks.{marked-first, marked_next, marked_done}
 use Rattle.decoding.proofs.mark_all.Statement.{statement}
@@ -30,5 +30,5 @@ returns c =
 pub mark-all-spec : {M : Type 1} → statement M
 mark-all-spec =
     tie.close
-    (tie.spec invariant-loop decreases-loop loop-holds slice-write-marks (λ c. search needs) (λ c. search needs) loop-again (λ c. search needs)
+    (tie.spec invariant-loop decreases-loop loop-holds slice-write-marks (λ c. search rules) (λ c. search rules) loop-again (λ c. search rules)
     returns)

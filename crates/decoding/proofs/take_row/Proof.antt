@@ -1,5 +1,5 @@
 -- The row agrees and clears its items, or it is counted (Picking).
-use Rattle.fips197.proofs.Kit.{sym, ap, ◌∙◌, Bool, not, needs}
+use Rattle.fips197.proofs.Kit.{sym, ap, ◌∙◌, Bool, not, rules}
 use Rattle.incidence.specs.Count.{indicator}
 use Rattle.sizes.specs.Sizes.{family_of}
 use Rattle.decoding.specs.Decoding.{agrees_in}
@@ -22,4 +22,4 @@ returns-2 c =
     (taken_other (family_of a.code) (agrees_in a.d.now) a.n a.row a.marks.now e, sym (ap (λ (b : Bool). indicator (not b)) e))
 
 pub take-row-spec : {M : Type 1} → statement M
-take-row-spec = tie.close (tie.spec (λ c κs. search needs) (λ c κs. search needs) (λ c. search needs) returns returns-2)
+take-row-spec = tie.close (tie.spec (λ c κs. search rules) (λ c κs. search rules) (λ c. search rules) returns returns-2)

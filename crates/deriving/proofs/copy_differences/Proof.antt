@@ -1,5 +1,5 @@
 -- Each turn stores one member (cipher's Loop).
-use Rattle.fips197.proofs.Kit.{◌≡◌, refl, ◌-◌, ◌≤◌, ◌<◌, arith, length, now, needs}
+use Rattle.fips197.proofs.Kit.{◌≡◌, refl, ◌-◌, ◌≤◌, ◌<◌, arith, length, now, rules}
 use Rattle.blocks.proofs.Loop.{part, part_turn, part_front}
 use Rattle.plane.specs.Table.{differences}
 use Rattle.plane.proofs.Lookup.{differences_few}
@@ -25,7 +25,7 @@ mul-list c =
     let d = c.before.before.before in
     let few : c.before.before.loop.i < 17 =
     omega (arith, d.difference-count.ensures, differences_few d.before.before.args.s) in
-    search (needs, few)
+    search (rules, few)
 
 slice-write-list : tie.Need-slice-write-list invariant-loop decreases-loop
 slice-write-list c =
@@ -40,7 +40,7 @@ loop-again c =
     let list = now d.before.before.args.list in
     let e = d.difference-count.ensures in (
       omega arith,
-      search needs,
+      search rules,
       part_turn l.loop.i (differences s) list l.loop.list _ l.loop.invariant.2
           (omega (arith, e, differences_few s)) (omega (arith, e)) c.difference.ensures,
     )
@@ -59,5 +59,5 @@ returns c =
 pub copy-differences-spec : {M : Type 1} → statement M
 copy-differences-spec =
     tie.close
-    (tie.spec invariant-loop decreases-loop (λ c κs. search needs) (λ c. search needs) (λ c κs. search needs) cast-list mul-list
-    slice-write-list (λ c. search needs) (λ c. search needs) loop-again (λ c. search needs) returns)
+    (tie.spec invariant-loop decreases-loop (λ c κs. search rules) (λ c. search rules) (λ c κs. search rules) cast-list mul-list
+    slice-write-list (λ c. search rules) (λ c. search rules) loop-again (λ c. search rules) returns)

@@ -1,11 +1,11 @@
 -- The list handed on is the plane's, and what is written is its pattern (Members).
-use Rattle.fips197.proofs.Kit.{needs}
+use Rattle.fips197.proofs.Kit.{rules}
 use Rattle.deriving.proofs.Members.{list_few, lent_list, derived-count, derived_written}
 use Rattle.deriving.proofs.derive.Statement.{statement}
 use Rattle.deriving.proofs.derive.Tie as tie
 
 part-pattern-end : tie.Need-slice-bounds-pattern-end
-part-pattern-end c = let few = list_few _ _ c.before.before.before.copy-differences.ensures.1 in search (needs, few)
+part-pattern-end c = let few = list_few _ _ c.before.before.before.copy-differences.ensures.1 in search (rules, few)
 
 returns : tie.Need-returns
 returns c =
@@ -22,5 +22,5 @@ returns c =
 pub derive-spec : {M : Type 1} → statement M
 derive-spec =
     tie.close
-    (tie.spec (λ c. search needs) (λ c κs. search needs) (λ c κs. search needs) (λ c. search needs) (λ c. search needs)
-    part-pattern-end (λ c κs. search needs) (λ c. search needs) returns)
+    (tie.spec (λ c. search rules) (λ c κs. search rules) (λ c κs. search rules) (λ c. search rules) (λ c. search rules)
+    part-pattern-end (λ c κs. search rules) (λ c. search rules) returns)

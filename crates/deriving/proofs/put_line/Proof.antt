@@ -1,5 +1,5 @@
 -- Three texts, one behind the other (printing's Putting); the words are those of the pattern derived (Words).
-use Rattle.fips197.proofs.Kit.{now, needs}
+use Rattle.fips197.proofs.Kit.{now, rules}
 use Rattle.printing.specs.Text.{ascii, decimal}
 use Rattle.printing.proofs.Putting.{put_as, room_as, three₁, three₂, three₃, three}
 use Rattle.deriving.specs.Lines.{words, pattern_line}
@@ -47,5 +47,5 @@ returns c =
 pub put-line-spec : {M : Type 1} → statement M
 put-line-spec =
     tie.close
-    (tie.spec (λ c. search needs) (λ c κs. search needs) put-decimal-requires (λ c. search needs) put-words-requires
-    (λ c. search needs) put-requires (λ c. search needs) returns)
+    (tie.spec (λ c. search rules) (λ c κs. search rules) put-decimal-requires (λ c. search rules) put-words-requires
+    (λ c. search rules) put-requires (λ c. search rules) returns)

@@ -1,5 +1,5 @@
 -- Each turn puts one size's line behind the others (Printing).
-use Rattle.fips197.proofs.Kit.{◌-◌, ◌≤◌, arith, length, now, needs}
+use Rattle.fips197.proofs.Kit.{◌-◌, ◌≤◌, arith, length, now, rules}
 use Rattle.printing.proofs.Putting.{Put, put_none, put_as, two₂, two}
 use Rattle.deriving.specs.Derived.{derived}
 use Rattle.deriving.specs.Lines.{pattern_line, pattern_lines}
@@ -54,4 +54,4 @@ returns c =
 pub put-lines-spec : {M : Type 1} → statement M
 put-lines-spec =
     tie.close
-    (tie.spec invariant-loop decreases-loop loop-holds put-line-requires (λ c. search needs) (λ c. search needs) loop-again same_length returns)
+    (tie.spec invariant-loop decreases-loop loop-holds put-line-requires (λ c. search rules) (λ c. search rules) loop-again same_length returns)

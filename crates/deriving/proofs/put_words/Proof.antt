@@ -1,5 +1,5 @@
 -- Each turn puts one step behind those that stand (printing's Putting, Words).
-use Rattle.fips197.proofs.Kit.{◌≡◌, sym, ap, ℕ, ◌-◌, ◌≤◌, arith, get_or, take, now, needs}
+use Rattle.fips197.proofs.Kit.{◌≡◌, sym, ap, ℕ, ◌-◌, ◌≤◌, arith, get_or, take, now, rules}
 use Rattle.printing.specs.Text.{labelled}
 use Rattle.printing.proofs.Putting.{Put, put_none, put_as, put_size, two₂, two}
 use Rattle.deriving.specs.Lines.{words}
@@ -60,5 +60,5 @@ returns c =
 pub put-words-spec : {M : Type 1} → statement M
 put-words-spec =
     tie.close
-    (tie.spec invariant-loop decreases-loop loop-holds (λ c. search needs) (λ c. search needs) put-word-requires (λ c. search needs)
-    (λ c. search needs) loop-again same_length returns)
+    (tie.spec invariant-loop decreases-loop loop-holds (λ c. search rules) (λ c. search rules) put-word-requires (λ c. search rules)
+    (λ c. search rules) loop-again same_length returns)

@@ -1,5 +1,5 @@
 -- A thousand turns.
-use Rattle.fips197.proofs.Kit.{◌≤◌, ◌-◌, needs}
+use Rattle.fips197.proofs.Kit.{◌≤◌, ◌-◌, rules}
 use Rattle.engines.proofs.chain.Statement.{statement}
 use Rattle.engines.proofs.chain.Tie as tie
 
@@ -12,5 +12,5 @@ decreases-loop w x₀ agree₀ i₀ x agree i = 1000 - i
 pub chain-spec : {M : Type 1} → statement M
 chain-spec =
     tie.close
-    (tie.spec invariant-loop decreases-loop (λ c. search needs) (λ c κs. search needs) (λ c κs. search needs) (λ c κs. search needs)
-    (λ c κs. search needs) (λ c. search needs) (λ c. search needs) (λ c. search needs) (λ c. search needs))
+    (tie.spec invariant-loop decreases-loop (λ c. search rules) (λ c κs. search rules) (λ c κs. search rules) (λ c κs. search rules)
+    (λ c κs. search rules) (λ c. search rules) (λ c. search rules) (λ c. search rules) (λ c. search rules))

@@ -1,5 +1,5 @@
 -- No more blocks are turned than asked for; out is as long as it was.
-use Rattle.fips197.proofs.Kit.{◌≤◌, ◌-◌, ◌≡◌, length, needs}
+use Rattle.fips197.proofs.Kit.{◌≤◌, ◌-◌, ◌≡◌, length, rules}
 use Rattle.engines.proofs.turn.Statement.{statement}
 use Rattle.engines.proofs.turn.Tie as tie
 
@@ -12,7 +12,7 @@ decreases-loop w to-tag t s from out₀ to mask₀ k₀ out mask k = t - k
 pub turn_spec : {M : Type 1} → statement M
 turn_spec =
     tie.close
-    (tie.spec invariant-loop decreases-loop (λ c κs. search needs) (λ c. search needs) (λ c κs. search needs) (λ c. search needs)
-    (λ c. search needs) (λ c κs. search needs) (λ c κs. search needs) (λ c. search needs) (λ c. search needs)
-    (λ c κs. search needs) (λ c κs. search needs) (λ c κs. search needs) (λ c. search needs) (λ c. search needs)
-    (λ c. search needs) (λ c. search needs) (λ c. search needs))
+    (tie.spec invariant-loop decreases-loop (λ c κs. search rules) (λ c. search rules) (λ c κs. search rules) (λ c. search rules)
+    (λ c. search rules) (λ c κs. search rules) (λ c κs. search rules) (λ c. search rules) (λ c. search rules)
+    (λ c κs. search rules) (λ c κs. search rules) (λ c κs. search rules) (λ c. search rules) (λ c. search rules)
+    (λ c. search rules) (λ c. search rules) (λ c. search rules))

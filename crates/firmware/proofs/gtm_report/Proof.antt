@@ -1,6 +1,6 @@
 -- What the call says, packed, with demand 3 and requests 2.2 and 2.14 of it (Packing), and request 2.13 of the marks, which are as Report left
 -- them.
-use Rattle.fips197.proofs.Kit.{◌∙◌, needs}
+use Rattle.fips197.proofs.Kit.{◌∙◌, rules}
 use Rattle.firmware.proofs.Packing.{packed_is, report_read, claim_packed, rows_as_read, rows-packed, drift_read}
 use Rattle.firmware.proofs.gtm_report.Statement.{statement}
 use Rattle.firmware.proofs.gtm_report.Tie as tie
@@ -37,4 +37,4 @@ returns c =
     )
 
 pub gtm-report-spec : {M : Type 1} → statement M
-gtm-report-spec = tie.close (tie.spec (λ c κs. search needs) (λ c κs. search needs) (λ c. search needs) returns)
+gtm-report-spec = tie.close (tie.spec (λ c κs. search rules) (λ c κs. search rules) (λ c. search rules) returns)

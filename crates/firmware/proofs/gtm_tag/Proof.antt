@@ -1,5 +1,5 @@
 -- What the call says, packed.
-use Rattle.fips197.proofs.Kit.{ap, ◌∙◌, needs}
+use Rattle.fips197.proofs.Kit.{ap, ◌∙◌, rules}
 use Rattle.firmware.specs.Packed.{packed}
 use Rattle.firmware.proofs.gtm_tag.Statement.{statement}
 use Rattle.firmware.proofs.gtm_tag.Tie as tie
@@ -10,4 +10,4 @@ returns c =
     (c.pack.ensures ∙ ap packed t.0, t.1)
 
 pub gtm-tag-spec : {M : Type 1} → statement M
-gtm-tag-spec = tie.close (tie.spec (λ c κs. search needs) (λ c κs. search needs) (λ c. search needs) returns)
+gtm-tag-spec = tie.close (tie.spec (λ c κs. search rules) (λ c κs. search rules) (λ c. search rules) returns)

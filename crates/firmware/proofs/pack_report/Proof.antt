@@ -1,5 +1,5 @@
 -- Refused, or answer and numbers (Packing).
-use Rattle.fips197.proofs.Kit.{sym, ap, ◌∙◌, ℕ, ◌+◌, ◌*◌, ◌%◌, arith, needs}
+use Rattle.fips197.proofs.Kit.{sym, ap, ◌∙◌, ℕ, ◌+◌, ◌*◌, ◌%◌, arith, rules}
 use Rattle.firmware.specs.Packed.{number_in}
 use Rattle.firmware.proofs.Packing.{number-back, report_done, report_refused, ordinal_small}
 use Rattle.firmware.proofs.pack_report.Statement.{statement}
@@ -34,5 +34,5 @@ returns-2 c =
 pub pack-report-spec : {M : Type 1} → statement M
 pack-report-spec =
     tie.close
-    (tie.spec (λ c κs. search needs) returns (λ c κs. search needs) mul-result (λ c. search needs) add-result (λ c. search needs)
+    (tie.spec (λ c κs. search rules) returns (λ c κs. search rules) mul-result (λ c. search rules) add-result (λ c. search rules)
     add-result-2 returns-2)

@@ -1,5 +1,5 @@
 -- Each turn adds the next mask to one block; those before it stay, and those behind it are still as they were (Slots).
-use Rattle.fips197.proofs.Kit.{◌≡◌, refl, sym, ap, ◌∙◌, suc, ◌-◌, ◌≤◌, arith, add-one, length, needs}
+use Rattle.fips197.proofs.Kit.{◌≡◌, refl, sym, ap, ◌∙◌, suc, ◌-◌, ◌≤◌, arith, add-one, length, rules}
 use Rattle.blocks.specs.Block.{◌⊕◌, slot}
 use Rattle.blocks.specs.Double.{double}
 use Rattle.blocks.proofs.Slots.{Front, front-first, front_done}
@@ -36,5 +36,5 @@ returns c =
 pub add-masks-spec : {M : Type 1} → statement M
 add-masks-spec =
     tie.close
-    (tie.spec invariant-loop decreases-loop loop-holds (λ c κs. search needs) (λ c. search needs) (λ c κs. search needs) (λ c. search needs)
-    (λ c. search needs) loop-again (λ c. search needs) returns)
+    (tie.spec invariant-loop decreases-loop loop-holds (λ c κs. search rules) (λ c. search rules) (λ c κs. search rules) (λ c. search rules)
+    (λ c. search rules) loop-again (λ c. search rules) returns)

@@ -1,5 +1,5 @@
 -- Zeros for a vacant place; any other item is laid out behind its numbers.
-use Rattle.fips197.proofs.Kit.{◌≡◌, refl, sym, ap, ◌∙◌, List, ◌++◌, ℕ, ◌+◌, arith, length, take, take_at, needs}
+use Rattle.fips197.proofs.Kit.{◌≡◌, refl, sym, ap, ◌∙◌, List, ◌++◌, ℕ, ◌+◌, arith, length, take, take_at, rules}
 use Rattle.blocks.specs.Number.{big_endian}
 use Rattle.blocks.proofs.Loop.{front_kept}
 use Rattle.cipher.specs.Cmac.{mac_with}
@@ -36,10 +36,10 @@ returns-2 c =
           ∙ ap (mac_with a.k)
           (ap (take (8 + length a.item.now)) q.put-numbered.ensures ∙ take_at n _ (8 + length a.item.now) (numbered_length a.stamp.number a.j a.item.now))
           ∙ sym (hash_filled (mac_with a.k) a.stamp a.j a.item.now (sym v.before.vacant.ensures ∙ v.if1.false)),
-      search needs,
+      search rules,
     )
 
 pub item-hash-spec : {M : Type 1} → statement M
 item-hash-spec =
     tie.close
-    (tie.spec (λ c κs. search needs) returns (λ c κs. search needs) (λ c. search needs) mac-in-place-requires (λ c. search needs) returns-2)
+    (tie.spec (λ c κs. search rules) returns (λ c κs. search rules) (λ c. search rules) mac-in-place-requires (λ c. search rules) returns-2)

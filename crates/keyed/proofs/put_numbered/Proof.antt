@@ -1,12 +1,12 @@
 -- The numbers at the front, and the item behind them (blocks' Loop).
-use Rattle.fips197.proofs.Kit.{◌≡◌, ap, ◌∙◌, List, ◌++◌, ℕ, ◌+◌, arith, length, drop, needs}
+use Rattle.fips197.proofs.Kit.{◌≡◌, ap, ◌∙◌, List, ◌++◌, ℕ, ◌+◌, arith, length, drop, rules}
 use Rattle.blocks.proofs.Loop.{front_kept, put_behind}
 use Rattle.blocks.proofs.Numbers.{big_endian_pair}
 use Rattle.keyed.proofs.put_numbered.Statement.{statement}
 use Rattle.keyed.proofs.put_numbered.Tie as tie
 
 numbers-long : (c : tie.After-to-be64) → length c.to-be64.result ≡ 8
-numbers-long c = search needs
+numbers-long c = search rules
 
 -- the numbers are written
 front : (c : tie.After-put-bytes) → c.put-bytes.new.0 ≡ c.before.before.before.to-be64.result ++ drop 8 c.before.before.before.before.before.before.args.out.now
@@ -38,5 +38,5 @@ returns c =
 pub put-numbered-spec : {M : Type 1} → statement M
 put-numbered-spec =
     tie.close
-    (tie.spec (λ c. search needs) (λ c. search needs) (λ c κs. search needs) (λ c. search needs) (λ c κs. search needs)
-    put-bytes-requires-2 (λ c. search needs) returns)
+    (tie.spec (λ c. search rules) (λ c. search rules) (λ c κs. search rules) (λ c. search rules) (λ c κs. search rules)
+    put-bytes-requires-2 (λ c. search rules) returns)

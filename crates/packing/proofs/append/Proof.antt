@@ -1,5 +1,5 @@
 -- The file with the item where the refusal's number is 0, else all as it was (Refusing).
-use Rattle.fips197.proofs.Kit.{◌∙◌, needs}
+use Rattle.fips197.proofs.Kit.{◌∙◌, rules}
 use Rattle.files.proofs.Passing.{given, kept}
 use Rattle.packing.specs.Packing.{append_refusal, append_writes}
 use Rattle.packing.proofs.Refusing.{appendable}
@@ -35,4 +35,4 @@ returns-2 c =
 pub append-spec : {M : Type 1} → statement M
 append-spec =
     tie.close
-    (tie.spec (λ c κs. search needs) (λ c. search needs) returns put-item-requires (λ c. search needs) returns-2)
+    (tie.spec (λ c κs. search rules) (λ c. search rules) returns put-item-requires (λ c. search rules) returns-2)

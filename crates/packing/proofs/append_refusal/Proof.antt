@@ -1,5 +1,5 @@
 -- 9, 7 and what is refused of the file, in this order (Passing).
-use Rattle.fips197.proofs.Kit.{◌≡◌, refl, ap, ◌∙◌, [], ◌∷◌, ℕ, ◌+◌, ◌-◌, ◌≤◌, arith, leb, ltb, length, take, needs}
+use Rattle.fips197.proofs.Kit.{◌≡◌, refl, ap, ◌∙◌, [], ◌∷◌, ℕ, ◌+◌, ◌-◌, ◌≤◌, arith, leb, ltb, length, take, rules}
 use Rattle.files.specs.Refusals.{unless, first}
 use Rattle.files.specs.Message.{item_count, refuse3}
 use Rattle.files.proofs.Passing.{stop, run2, run_end, listed, passes2, same_first, same_cons, same_nil}
@@ -32,7 +32,7 @@ pub append-refusal-spec : {M : Type 1} → statement M
 unfolding append_refusal
 append-refusal-spec =
     tie.close
-    (tie.spec (λ c κs. search needs) (λ c κs. search needs) (λ c κs. search needs)
-    (λ c. rw run2 (stop _ _ _ (search listed depth 12) c.if1.true)) (λ c. search needs) (λ c. search needs)
+    (tie.spec (λ c κs. search rules) (λ c κs. search rules) (λ c κs. search rules)
+    (λ c. rw run2 (stop _ _ _ (search listed depth 12) c.if1.true)) (λ c. search rules) (λ c. search rules)
     (λ c. omega (arith, room c)) (λ c. omega (arith, room c.before)) (λ c. omega (arith, room c.before))
-    (λ c κs. search needs) (λ c κs. search needs) returns-2)
+    (λ c κs. search rules) (λ c κs. search rules) returns-2)

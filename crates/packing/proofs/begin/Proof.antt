@@ -1,5 +1,5 @@
 -- The file without items where neither stamp nor room is refused, else all as it was (Refusing).
-use Rattle.fips197.proofs.Kit.{◌≡◌, ap, ◌∙◌, List, [], ◌++◌, ℕ, length, drop, needs}
+use Rattle.fips197.proofs.Kit.{◌≡◌, ap, ◌∙◌, List, [], ◌++◌, ℕ, length, drop, rules}
 use Rattle.files.specs.Message.{items_at}
 use Rattle.files.specs.Arguments.{refuse7}
 use Rattle.files.proofs.Passing.{given, kept, same_first, same_cons, same_nil}
@@ -48,5 +48,5 @@ returns-2 c =
 pub begin-spec : {M : Type 1} → statement M
 begin-spec =
     tie.close
-    (tie.spec (λ c κs. search needs) (λ c κs. search needs) (λ c κs. search needs) (λ c κs. search needs) returns put-empty-requires
-    (λ c. search needs) returns-2)
+    (tie.spec (λ c κs. search rules) (λ c κs. search rules) (λ c κs. search rules) (λ c κs. search rules) returns put-empty-requires
+    (λ c. search rules) returns-2)

@@ -1,5 +1,5 @@
 -- Room for n bytes, and for the item behind them (Refusing).
-use Rattle.fips197.proofs.Kit.{◌∙◌, length, needs}
+use Rattle.fips197.proofs.Kit.{◌∙◌, length, rules}
 use Rattle.packing.proofs.Refusing.{room_short, room_rest}
 use Rattle.packing.proofs.check_room.Statement.{statement}
 use Rattle.packing.proofs.check_room.Tie as tie
@@ -15,4 +15,4 @@ returns-2 c =
     c.check-room.ensures ∙ room_rest d.room d.n (length d.item.now) c.before.if1.false
 
 pub check-room-spec : {M : Type 1} → statement M
-check-room-spec = tie.close (tie.spec returns (λ c. search needs) (λ c κs. search needs) returns-2)
+check-room-spec = tie.close (tie.spec returns (λ c. search rules) (λ c κs. search rules) returns-2)

@@ -1,13 +1,13 @@
 -- The part from the place on comes back with the text in front (Loop).
-use Rattle.fips197.proofs.Kit.{needs}
+use Rattle.fips197.proofs.Kit.{rules}
 use Rattle.blocks.proofs.Loop.{part_copied}
 use Rattle.packing.proofs.put.Statement.{statement}
 use Rattle.packing.proofs.put.Tie as tie
 
 returns : tie.Need-returns
-returns c = search (needs, part_copied)
+returns c = search (rules, part_copied)
 
 pub put_spec : {M : Type 1} → statement M
 put_spec =
     tie.close
-    (tie.spec (λ c. search needs) (λ c. search needs) (λ c. search needs) (λ c κs. search needs) (λ c. search needs) returns)
+    (tie.spec (λ c. search rules) (λ c. search rules) (λ c. search rules) (λ c κs. search rules) (λ c. search rules) returns)

@@ -1,5 +1,5 @@
 -- Letters, version and number, and the count behind them (Writing).
-use Rattle.fips197.proofs.Kit.{arith, needs}
+use Rattle.fips197.proofs.Kit.{arith, rules}
 use Rattle.files.specs.Message.{message_letters, items_at}
 use Rattle.packing.proofs.Writing.{front_put, empty_put}
 use Rattle.packing.proofs.put_empty.Statement.{statement}
@@ -31,4 +31,4 @@ returns c =
 pub put-empty-spec : {M : Type 1} → statement M
 put-empty-spec =
     tie.close
-    (tie.spec (λ c κs. search needs) put-front-requires (λ c κs. search needs) (λ c. search needs) put-requires (λ c. search needs) returns)
+    (tie.spec (λ c κs. search rules) put-front-requires (λ c κs. search rules) (λ c. search rules) put-requires (λ c. search rules) returns)

@@ -1,5 +1,5 @@
 -- Three puts, one after another (Writing).
-use Rattle.fips197.proofs.Kit.{◌≡◌, ap, ◌∙◌, ℕ, ◌+◌, arith, take, needs}
+use Rattle.fips197.proofs.Kit.{◌≡◌, ap, ◌∙◌, ℕ, ◌+◌, arith, take, rules}
 use Rattle.blocks.specs.Number.{big_endian}
 use Rattle.stamp.specs.Front.{front_size, version_of}
 use Rattle.packing.proofs.Writing.{count_read, count_at, version-at, place_read, place-high, item_put}
@@ -57,6 +57,6 @@ returns c =
 pub put-item-spec : {M : Type 1} → statement M
 put-item-spec =
     tie.close
-    (tie.spec item-count-requires (λ c. search needs) cast-to-be16 (λ c κs. search needs) (λ c. search needs)
-    (λ c κs. search needs) version-of-requires (λ c κs. search needs) (λ c. search needs) put-requires (λ c. search needs)
-    (λ c κs. search needs) (λ c. search needs) (λ c κs. search needs) (λ c. search needs) returns)
+    (tie.spec item-count-requires (λ c. search rules) cast-to-be16 (λ c κs. search rules) (λ c. search rules)
+    (λ c κs. search rules) version-of-requires (λ c κs. search rules) (λ c. search rules) put-requires (λ c. search rules)
+    (λ c κs. search rules) (λ c. search rules) (λ c κs. search rules) (λ c. search rules) returns)

@@ -1,5 +1,5 @@
 -- Version 1 by its number, a later one by itself (Refusing).
-use Rattle.fips197.proofs.Kit.{◌≡◌, sym, ap, ◌∙◌, Bool, ◌&&◌, leb, le-leb, lt-leb, needs}
+use Rattle.fips197.proofs.Kit.{◌≡◌, sym, ap, ◌∙◌, Bool, ◌&&◌, leb, le-leb, lt-leb, rules}
 use Rattle.incidence.specs.Count.{inside}
 use Rattle.stamp.specs.Front.{stamp_fits}
 use Rattle.files.specs.Message.{newest_message}
@@ -12,7 +12,7 @@ returns c = fits-first c.before.before.before.args.stamp c.before.if1.true
 
 -- a later version: it decides alone
 later : (c : tie.Else1) → inside newest_message c.before.before.args.stamp.version ≡ stamp_fits newest_message c.before.before.args.stamp
-later c = fits_later c.before.before.args.stamp c.if1.false (search needs)
+later c = fits_later c.before.before.args.stamp c.if1.false (search rules)
 
 returns-2 : tie.Need-returns-2
 unfolding newest_message

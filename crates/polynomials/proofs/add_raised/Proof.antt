@@ -1,5 +1,5 @@
 -- From x^k on, each turn adds one coefficient (Raising).
-use Rattle.fips197.proofs.Kit.{◌≡◌, ◌-◌, ◌≤◌, length, needs}
+use Rattle.fips197.proofs.Kit.{◌≡◌, ◌-◌, ◌≤◌, length, rules}
 use Rattle.blocks.specs.Block.{◌⊕◌}
 use Rattle.blocks.proofs.Loop.{part}
 use Rattle.polynomials.specs.Polynomial.{raised}
@@ -14,16 +14,16 @@ abbrev decreases-loop : tie.decreases-loop
 decreases-loop p₀ q k i₀ p i = length p₀ - i
 
 loop-holds : tie.Need-loop-init invariant-loop decreases-loop
-loop-holds c = search (needs, sum_begun)
+loop-holds c = search (rules, sum_begun)
 
 loop-again : tie.Need-loop-preserved invariant-loop decreases-loop
-loop-again c = search (needs, sum_next)
+loop-again c = search (rules, sum_next)
 
 returns : tie.Need-returns invariant-loop decreases-loop
-returns c = search (needs, sum_done)
+returns c = search (rules, sum_done)
 
 pub add-raised-spec : {M : Type 1} → statement M
 add-raised-spec =
     tie.close
-    (tie.spec invariant-loop decreases-loop loop-holds (λ c. search needs) (λ c. search needs) (λ c. search needs) (λ c. search needs)
-    (λ c. search needs) (λ c. search needs) loop-again (λ c. search needs) returns)
+    (tie.spec invariant-loop decreases-loop loop-holds (λ c. search rules) (λ c. search rules) (λ c. search rules) (λ c. search rules)
+    (λ c. search rules) (λ c. search rules) loop-again (λ c. search rules) returns)

@@ -1,5 +1,5 @@
 -- Each turn takes one step; what is left to do gives the divisor (Dividing).
-use Rattle.fips197.proofs.Kit.{◌≡◌, ◌-◌, ◌≤◌, arith, length, needs}
+use Rattle.fips197.proofs.Kit.{◌≡◌, ◌-◌, ◌≤◌, arith, length, rules}
 use Rattle.polynomials.specs.Polynomial.{gcd_in, gcd}
 use Rattle.polynomials.proofs.Sizes.{sizes_few}
 use Rattle.polynomials.proofs.Dividing.{gcd-begun, gcd-next, gcd_done}
@@ -19,7 +19,7 @@ add_most c =
     omega (arith, sizes_few _ _ _ _ c.before.before.size.ensures c.size2.ensures d.requires.0 d.requires.1)
 
 loop-holds : tie.Need-loop-init invariant-loop decreases-loop
-loop-holds c = search (needs, gcd-begun)
+loop-holds c = search (rules, gcd-begun)
 
 add-i : tie.Need-overflow-add-i invariant-loop decreases-loop
 add-i c =
@@ -29,13 +29,13 @@ add-i c =
     omega (arith, sizes_few _ _ _ _ s.before.before.size.ensures s.size2.ensures d.requires.0 d.requires.1)
 
 loop-again : tie.Need-loop-preserved invariant-loop decreases-loop
-loop-again c = search (needs, gcd-next)
+loop-again c = search (rules, gcd-next)
 
 returns : tie.Need-returns invariant-loop decreases-loop
-returns c = search (needs, gcd_done)
+returns c = search (rules, gcd_done)
 
 pub gcd-spec : {M : Type 1} → statement M
 gcd-spec =
     tie.close
-    (tie.spec invariant-loop decreases-loop (λ c κs. search needs) (λ c κs. search needs) add_most loop-holds (λ c κs. search needs) add-i
-    (λ c. search needs) loop-again (λ c κs. search needs) (λ c. search needs) (λ c. search needs) returns)
+    (tie.spec invariant-loop decreases-loop (λ c κs. search rules) (λ c κs. search rules) add_most loop-holds (λ c κs. search rules) add-i
+    (λ c. search rules) loop-again (λ c κs. search rules) (λ c. search rules) (λ c. search rules) returns)

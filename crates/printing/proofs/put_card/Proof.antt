@@ -1,5 +1,5 @@
 -- Nothing, or two texts, one behind the other (Putting).
-use Rattle.fips197.proofs.Kit.{now, needs}
+use Rattle.fips197.proofs.Kit.{now, rules}
 use Rattle.printing.specs.Text.{ascii, labelled}
 use Rattle.printing.specs.Lines.{card_line}
 use Rattle.printing.proofs.Putting.{put_none, put_as, room_as, two₁, two₂, two}
@@ -33,4 +33,4 @@ returns-2 c =
 pub put-card-spec : {M : Type 1} → statement M
 put-card-spec =
     tie.close
-    (tie.spec returns (λ c. search needs) put-labelled-requires (λ c. search needs) put-requires (λ c. search needs) returns-2)
+    (tie.spec returns (λ c. search rules) put-labelled-requires (λ c. search rules) put-requires (λ c. search rules) returns-2)

@@ -1,5 +1,5 @@
 -- Each turn puts one card's line behind those that stand (Putting, CardLines).
-use Rattle.fips197.proofs.Kit.{◌≡◌, sym, ap, ◌+◌, ◌-◌, ◌*◌, ◌≤◌, arith, length, get_or, now, needs}
+use Rattle.fips197.proofs.Kit.{◌≡◌, sym, ap, ◌+◌, ◌-◌, ◌*◌, ◌≤◌, arith, length, get_or, now, rules}
 use Rattle.printing.specs.Lines.{card_part, card_lines}
 use Rattle.printing.proofs.Putting.{room_for, put_short, Put, put_none, put_as, put_size, two₂, two}
 use Rattle.printing.proofs.CardLines.{lines_next, lines_fewer, lines_room}
@@ -25,7 +25,7 @@ put-card-requires c κs =
     let d = c.before.before.before.before.before.before in
     let marks = now d.args.marks in
     let j = l.loop.j in
-    let few = cards_short marks d.args.n (search needs) in
+    let few = cards_short marks d.args.n (search rules) in
     let fits = room_for d.args.at (length (now d.args.out)) (length (card_lines marks d.args.n)) (26 * d.args.n) few d.requires.1 in
     two₂ d.args.at (card_lines marks j) (card_part (get_or marks j 0) (j + 1)) (now d.args.out) (lines_room d.args.at j d.args.n marks (now d.args.out) (omega arith) fits) l.loop.invariant.1
 
@@ -35,7 +35,7 @@ loop-again c =
     let d = c.before.before.before.before.before.before.before.before.before in
     let marks = now d.args.marks in
     let j = l.loop.j in
-    let few = cards_short marks d.args.n (search needs) in
+    let few = cards_short marks d.args.n (search rules) in
     let fits = room_for d.args.at (length (now d.args.out)) (length (card_lines marks d.args.n)) (26 * d.args.n) few d.requires.1 in
     (omega arith, put_as _ _ _ _ _ _ (sym (lines_next marks j)) (two d.args.at (card_lines marks j) (card_part (get_or marks j 0) (j + 1)) (now d.args.out) (lines_room d.args.at j d.args.n marks (now d.args.out) (omega arith) fits) l.loop.invariant.1 c.before.before.put-card.ensures))
 
@@ -45,7 +45,7 @@ same_length c =
     let d = c.before.before.before.before in
     let marks = now d.args.marks in
     let j = l.loop.j in
-    let few = cards_short marks d.args.n (search needs) in
+    let few = cards_short marks d.args.n (search rules) in
     let fits = room_for d.args.at (length (now d.args.out)) (length (card_lines marks d.args.n)) (26 * d.args.n) few d.requires.1 in
     let h = lines_fewer marks j d.args.n l.loop.invariant.0 in
     put_size d.args.at l.loop.next (card_lines marks j) (now d.args.out) l.loop.out (omega (arith, h, fits)) l.loop.invariant.1
@@ -56,12 +56,12 @@ returns c =
     let d = c.before.before.before.before in
     let marks = now d.args.marks in
     let j = l.loop.j in
-    let few = cards_short marks d.args.n (search needs) in
+    let few = cards_short marks d.args.n (search rules) in
     let e : j ≡ d.args.n = omega arith in
     put_short _ _ (26 * d.args.n) _ _ _ few (put_as _ _ _ _ _ _ (ap (card_lines marks) e) l.loop.invariant.1)
 
 pub put-cards-spec : {M : Type 1} → statement M
 put-cards-spec =
     tie.close
-    (tie.spec invariant-loop decreases-loop loop-holds (λ c. search needs) (λ c. search needs) put-card-requires (λ c. search needs)
-    (λ c. search needs) loop-again same_length returns)
+    (tie.spec invariant-loop decreases-loop loop-holds (λ c. search rules) (λ c. search rules) put-card-requires (λ c. search rules)
+    (λ c. search rules) loop-again same_length returns)

@@ -1,5 +1,5 @@
 -- The digits are written from the last to the first: those before the ones that stand are the digits of what rests (Decimals).
-use Rattle.fips197.proofs.Kit.{◌≡◌, refl, sym, ◌∙◌, ap, subst, List, ◌++◌, ℕ, ◌+◌, ◌^◌, ◌≤◌, ◌<◌, arith, length, drop, replicate, now, needs}
+use Rattle.fips197.proofs.Kit.{◌≡◌, refl, sym, ◌∙◌, ap, subst, List, ◌++◌, ℕ, ◌+◌, ◌^◌, ◌≤◌, ◌<◌, arith, length, drop, replicate, now, rules}
 use Rattle.printing.specs.Text.{decimal, over}
 use Rattle.printing.proofs.Decimals.{before, digits-first, digits-next, digits_done, tenth_low, tenth_less}
 use Rattle.printing.proofs.put_decimal.Statement.{statement}
@@ -17,11 +17,11 @@ decreases-loop out at n text₀ first₀ rest₀ text first rest = rest
 -- src/lib.rt:29:5
 -- src/lib.rt:31:5
 loop-holds : tie.Need-loop-init invariant-loop decreases-loop
-loop-holds c = (search needs, search needs, search needs, digits-first c.before.args.n (replicate 20 48) refl)
+loop-holds c = (search rules, search rules, search rules, digits-first c.before.args.n (replicate 20 48) refl)
 
 -- src/lib.rt:32:9
 sub-first : tie.Need-overflow-sub-first invariant-loop decreases-loop
-sub-first c = search (needs, tenth_low)
+sub-first c = search (rules, tenth_low)
 
 -- src/lib.rt:33:28
 -- src/lib.rt:33:23
@@ -32,10 +32,10 @@ loop-again : tie.Need-loop-preserved invariant-loop decreases-loop
 loop-again c =
     let l = c.before in
     let inv = l.loop.invariant in
-    let low : 1 ≤ l.loop.first = search (needs, tenth_low) in (
-      search needs,
-      search needs,
-      search (needs, tenth_less),
+    let low : 1 ≤ l.loop.first = search (rules, tenth_low) in (
+      search rules,
+      search rules,
+      search (rules, tenth_less),
       digits-next l.before.before.args.n l.loop.rest l.loop.first l.loop.text inv.3 (omega arith) low (omega arith),
     )
 
@@ -63,6 +63,6 @@ returns c =
 pub put-decimal-spec : {M : Type 1} → statement M
 put-decimal-spec =
     tie.close
-    (tie.spec invariant-loop decreases-loop (λ c. search needs) (λ c. search needs) (λ c. search needs) loop-holds sub-first (λ c. search needs)
-    (λ c. search needs) (λ c. search needs) (λ c. search needs) loop-again (λ c. search needs) (λ c. search needs)
-    (λ c. search needs) put-requires (λ c. search needs) returns)
+    (tie.spec invariant-loop decreases-loop (λ c. search rules) (λ c. search rules) (λ c. search rules) loop-holds sub-first (λ c. search rules)
+    (λ c. search rules) (λ c. search rules) (λ c. search rules) loop-again (λ c. search rules) (λ c. search rules)
+    (λ c. search rules) put-requires (λ c. search rules) returns)

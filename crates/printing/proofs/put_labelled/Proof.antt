@@ -1,5 +1,5 @@
 -- Two texts, one behind the other (Putting).
-use Rattle.fips197.proofs.Kit.{now, needs}
+use Rattle.fips197.proofs.Kit.{now, rules}
 use Rattle.printing.specs.Text.{decimal}
 use Rattle.printing.proofs.Putting.{two₁, two₂, two}
 use Rattle.printing.proofs.put_labelled.Statement.{statement}
@@ -21,4 +21,4 @@ returns c =
     two d.args.at (now d.args.word) (decimal d.args.n) (now d.args.out) d.requires c.before.before.before.before.before.before.put.ensures c.before.before.put-decimal.ensures
 
 pub put-labelled-spec : {M : Type 1} → statement M
-put-labelled-spec = tie.close (tie.spec put-requires put-decimal-requires (λ c. search needs) returns)
+put-labelled-spec = tie.close (tie.spec put-requires put-decimal-requires (λ c. search rules) returns)

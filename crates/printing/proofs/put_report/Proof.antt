@@ -1,5 +1,5 @@
 -- Three texts, one behind the other (Putting); they are short enough (Lengths).
-use Rattle.fips197.proofs.Kit.{arith, length, now, needs}
+use Rattle.fips197.proofs.Kit.{arith, length, now, rules}
 use Rattle.printing.specs.Lines.{limits_line, answer_line, card_lines, report_lines}
 use Rattle.printing.proofs.Putting.{room_for, put_front, three}
 use Rattle.printing.proofs.Lengths.{report_short}
@@ -11,7 +11,7 @@ unfolding report_lines
 returns c =
     let a = c.before.before.before.before.before.before.before.before.before.before.before.before.before.before.args in
     let marks = now a.marks in
-    let few = report_short a.code a.n a.said a.named a.rows marks a.k (search needs) (search needs) (search needs) (search needs) in
+    let few = report_short a.code a.n a.said a.named a.rows marks a.k (search rules) (search rules) (search rules) (search rules) in
     let p = c.before.before.before.before.before.before.before.before.before.before.put-limits.ensures in
     let q = c.before.before.before.before.before.before.put-answer.ensures in
     let r = c.before.before.put-cards.ensures in
@@ -23,4 +23,4 @@ returns c =
 pub put-report-spec : {M : Type 1} → statement M
 put-report-spec =
     tie.close
-    (tie.spec (λ c κs. search needs) (λ c κs. search needs) (λ c κs. search needs) (λ c. search needs) returns)
+    (tie.spec (λ c κs. search rules) (λ c κs. search rules) (λ c κs. search rules) (λ c. search rules) returns)

@@ -1,5 +1,5 @@
 -- Each arm puts its answer's word.
-use Rattle.fips197.proofs.Kit.{sym, ap, needs}
+use Rattle.fips197.proofs.Kit.{sym, ap, rules}
 use Rattle.printing.specs.Text.{ascii}
 use Rattle.printing.specs.Lines.{answer_word}
 use Rattle.printing.proofs.Putting.{put_as, room_as}
@@ -42,6 +42,6 @@ returns-3 c =
 pub put-word-spec : {M : Type 1} → statement M
 put-word-spec =
     tie.close
-    (tie.spec (λ c. search needs) (λ c. search needs) put-requires (λ c. search needs) (λ c. search needs) put-requires-2
-    (λ c. search needs) (λ c. search needs) put-requires-3 (λ c. search needs) returns (λ c. search needs) returns-2
-    (λ c. search needs) returns-3)
+    (tie.spec (λ c. search rules) (λ c. search rules) put-requires (λ c. search rules) (λ c. search rules) put-requires-2
+    (λ c. search rules) (λ c. search rules) put-requires-3 (λ c. search rules) returns (λ c. search rules) returns-2
+    (λ c. search rules) returns-3)

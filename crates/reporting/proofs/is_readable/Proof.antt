@@ -1,5 +1,5 @@
 -- Each test settles it (Reading).
-use Rattle.fips197.proofs.Kit.{ap, ◌∙◌, ℕ, ◌+◌, arith, leb, length, now, needs}
+use Rattle.fips197.proofs.Kit.{ap, ◌∙◌, ℕ, ◌+◌, arith, leb, length, now, rules}
 use Rattle.reporting.specs.Printed.{first_size}
 use Rattle.reporting.proofs.Reading.{not-long, not_short, if_whole}
 use Rattle.reporting.proofs.is_readable.Statement.{statement}
@@ -18,4 +18,4 @@ returns-3 c =
     ap (λ (k : ℕ). leb (51 + k) (length input)) c.number16.ensures.0 ∙ if_whole input (omega arith) (omega arith)
 
 pub is-readable-spec : {M : Type 1} → statement M
-is-readable-spec = tie.close (tie.spec returns returns-2 (λ c κs. search needs) (λ c. search needs) returns-3)
+is-readable-spec = tie.close (tie.spec returns returns-2 (λ c κs. search rules) (λ c. search rules) returns-3)

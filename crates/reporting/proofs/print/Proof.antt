@@ -1,5 +1,5 @@
 -- Unreadable, or the text of both messages (Texts); the parts of the input are those that the definitions name.
-use Rattle.fips197.proofs.Kit.{◌≡◌, sym, ap, ◌∙◌, true, List, ℕ, zero-add, arith, not-true, not-false, length, now, needs}
+use Rattle.fips197.proofs.Kit.{◌≡◌, sym, ap, ◌∙◌, true, List, ℕ, zero-add, arith, not-true, not-false, length, now, rules}
 use Rattle.printing.specs.Text.{ascii, over}
 use Rattle.reporting.specs.Printed.{first_size, readable, printed}
 use Rattle.printing.proofs.Putting.{over-front, put_as, put_front, put_counts}
@@ -15,7 +15,7 @@ returns c =
     let out = now c.before.before.before.before.before.before.args.out in
     let w = printed-not input (sym c.before.before.before.before.is-readable.ensures ∙ not-true _ c.before.before.before.if1.true) in
     let p = put_as _ _ _ _ _ _ w c.put.ensures in
-    let long : length c.put.new.0 ≡ length out = search needs in
+    let long : length c.put.new.0 ≡ length out = search rules in
     (p.0 ∙ over-front (printed input) out, ((put_front _ _ _ _ p).1, put_counts _ _ _ _ p long))
 
 shared-slice-read-code : tie.Need-shared-slice-read-code
@@ -28,7 +28,7 @@ shared-slice-read-code c =
 cast-code : tie.Need-overflow-cast-code
 cast-code c =
     let byte = c.shared-slice-known2.given 48 in
-    search (needs, byte)
+    search (rules, byte)
 
 number16-requires : tie.Need-number16-requires
 number16-requires c κs =
@@ -80,13 +80,13 @@ returns-2 c =
     let p = c.put_both.ensures in
     let q = p.0 ∙ ap (λ (t : List ℕ). over 0 t out) w in
     let r = p.1 ∙ ap length w in
-    let long : length c.put_both.new.1.1.1.1.0 ≡ length out = search needs in
+    let long : length c.put_both.new.1.1.1.1.0 ≡ length out = search rules in
     (q ∙ over-front (printed input) out, (r, put_counts _ _ _ _ (q, r ∙ sym (zero-add _)) long))
 
 pub print-spec : {M : Type 1} → statement M
 print-spec =
     tie.close
-    (tie.spec (λ c κs. search needs) (λ c. search needs) (λ c κs. search needs) returns shared-slice-read-code cast-code
-    number16-requires (λ c. search needs) (λ c. search needs) (λ c. search needs) part-put-both-end (λ c. search needs)
-    (λ c. search needs) part-put-both-end-2 sub-put-both-3 part-put-both-start-3 (λ c. search needs) (λ c κs. search needs)
+    (tie.spec (λ c κs. search rules) (λ c. search rules) (λ c κs. search rules) returns shared-slice-read-code cast-code
+    number16-requires (λ c. search rules) (λ c. search rules) (λ c. search rules) part-put-both-end (λ c. search rules)
+    (λ c. search rules) part-put-both-end-2 sub-put-both-3 part-put-both-start-3 (λ c. search rules) (λ c κs. search rules)
     returns-2)

@@ -1,5 +1,5 @@
 -- Refused or done, what is put is the text (Texts).
-use Rattle.fips197.proofs.Kit.{ap, ◌∙◌, List, ℕ, length, now, needs}
+use Rattle.fips197.proofs.Kit.{ap, ◌∙◌, List, ℕ, length, now, rules}
 use Rattle.printing.specs.Text.{over}
 use Rattle.printing.proofs.Putting.{put_as, put_front}
 use Rattle.files.specs.declared.tagfile.Head.{Head}
@@ -44,6 +44,6 @@ returns-2 c =
 pub put-both-spec : {M : Type 1} → statement M
 put-both-spec =
     tie.close
-    (tie.spec (λ c. search needs) (λ c κs. search needs) (λ c κs. search needs) (λ c. search needs) returns head-for-requires
-    (λ c κs. search needs) (λ c. search needs) (λ c. search needs) (λ c. search needs) (λ c κs. search needs) (λ c. search needs)
+    (tie.spec (λ c. search rules) (λ c κs. search rules) (λ c κs. search rules) (λ c. search rules) returns head-for-requires
+    (λ c κs. search rules) (λ c. search rules) (λ c. search rules) (λ c. search rules) (λ c κs. search rules) (λ c. search rules)
     returns-2)

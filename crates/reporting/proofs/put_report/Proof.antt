@@ -1,5 +1,5 @@
 -- Refused or done, what is put is the text (Texts).
-use Rattle.fips197.proofs.Kit.{◌≡◌, ap, ◌∙◌, List, ℕ, arith, length, now, needs}
+use Rattle.fips197.proofs.Kit.{◌≡◌, ap, ◌∙◌, List, ℕ, arith, length, now, rules}
 use Rattle.printing.specs.Text.{over}
 use Rattle.printing.proofs.Putting.{put_as, put_front}
 use Rattle.checks.proofs.Checking.{reportable}
@@ -31,7 +31,7 @@ put-report-requires c κs =
     let R = reportable (now a.keys) (now a.s) (now a.file) 273 r.result.refused r.ensures.0 c.before.before.before.if1.false in
     let n = c.before.before.item_count.ensures.0 in
     let few = R.fits in
-    let long : length r.new.1.1.1.0 ≡ 273 = search needs in
+    let long : length r.new.1.1.1.0 ≡ 273 = search rules in
     (omega arith, omega (arith, few, n), omega (arith, few, n, long))
 
 returns-2 : tie.Need-returns-2
@@ -47,5 +47,5 @@ returns-2 c =
 pub put-report-spec : {M : Type 1} → statement M
 put-report-spec =
     tie.close
-    (tie.spec (λ c. search needs) (λ c κs. search needs) (λ c κs. search needs) (λ c. search needs) returns item-count-requires
-    (λ c. search needs) put-report-requires (λ c. search needs) returns-2)
+    (tie.spec (λ c. search rules) (λ c κs. search rules) (λ c κs. search rules) (λ c. search rules) returns item-count-requires
+    (λ c. search rules) put-report-requires (λ c. search rules) returns-2)

@@ -1,5 +1,5 @@
 -- Refused, or read: the checks passed, and the keys are those handed over.
-use Rattle.fips197.proofs.Kit.{◌≡◌, subst, List, ℕ, arith, needs}
+use Rattle.fips197.proofs.Kit.{◌≡◌, subst, List, ℕ, arith, rules}
 use Rattle.sizes.specs.Sizes.{family_of}
 use Rattle.files.specs.TagFile.{code_of}
 use Rattle.sums.specs.Adding.{Holds}
@@ -26,7 +26,7 @@ read-differences-requires : tie.Need-read-differences-requires
 read-differences-requires c κs =
     let t = c.before.before in
     let p = (passed t).files in
-    (search needs, (p.message, (p.file, (start t).requires)))
+    (search rules, (p.message, (p.file, (start t).requires)))
 
 returns-2 : tie.Need-returns-2
 returns-2 c =
@@ -38,5 +38,5 @@ returns-2 c =
 pub compare-spec : {M : Type 1} → statement M
 compare-spec =
     tie.close
-    (tie.spec (λ c κs. search needs) (λ c κs. search needs) (λ c. (c.before.before.report-refusal.ensures, λ z. absurd (c.if1.true z))) (λ c κs. omega (arith, (passed c).files.keys48))
-    read-differences-requires (λ c. search needs) returns-2)
+    (tie.spec (λ c κs. search rules) (λ c κs. search rules) (λ c. (c.before.before.report-refusal.ensures, λ z. absurd (c.if1.true z))) (λ c κs. omega (arith, (passed c).files.keys48))
+    read-differences-requires (λ c. search rules) returns-2)

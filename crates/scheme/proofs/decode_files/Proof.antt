@@ -1,5 +1,5 @@
 -- The size code and the count are those of the files.
-use Rattle.fips197.proofs.Kit.{◌≡◌, ap, ap₂, ◌∙◌, ◌++◌, ℕ, arith, drop, needs}
+use Rattle.fips197.proofs.Kit.{◌≡◌, ap, ap₂, ◌∙◌, ◌++◌, ℕ, arith, drop, rules}
 use Rattle.incidence.specs.Report.{named, number_named, disagreeing, answer}
 use Rattle.sizes.specs.Sizes.{known, family_of}
 use Rattle.files.specs.declared.tagfile.Head.{Head}
@@ -48,4 +48,4 @@ returns c =
 pub decode-files-spec : {M : Type 1} → statement M
 decode-files-spec =
     tie.close
-    (tie.spec (λ c κs. search needs) (λ c κs. search needs) decode-tags-requires (λ c. search needs) (λ c. search needs) returns)
+    (tie.spec (λ c κs. search rules) (λ c κs. search rules) decode-tags-requires (λ c. search rules) (λ c. search rules) returns)

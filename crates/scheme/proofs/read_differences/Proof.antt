@@ -1,5 +1,5 @@
 -- The sums of the file's tags, and the message's added (Filing).
-use Rattle.fips197.proofs.Kit.{◌≡◌, ap, ◌∙◌, ℕ, arith, needs}
+use Rattle.fips197.proofs.Kit.{◌≡◌, ap, ◌∙◌, ℕ, arith, rules}
 use Rattle.sizes.specs.Sizes.{known, family_of}
 use Rattle.stamp.specs.Front.{version_of, stamp_of}
 use Rattle.files.specs.declared.tagfile.Head.{Head}
@@ -54,4 +54,4 @@ returns c =
 pub read-differences-spec : {M : Type 1} → statement M
 read-differences-spec =
     tie.close
-    (tie.spec (λ c κs. search needs) read-sums-requires (λ c κs. search needs) add-items-requires (λ c. search needs) returns)
+    (tie.spec (λ c κs. search rules) read-sums-requires (λ c κs. search rules) add-items-requires (λ c. search rules) returns)

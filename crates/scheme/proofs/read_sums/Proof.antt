@@ -1,5 +1,5 @@
 -- The tags deciphered one after another (Filing).
-use Rattle.fips197.proofs.Kit.{◌≡◌, sym, ◌∙◌, ap, ℕ, ◌*◌, arith, length, needs}
+use Rattle.fips197.proofs.Kit.{◌≡◌, sym, ◌∙◌, ap, ℕ, ◌*◌, arith, length, rules}
 use Rattle.sizes.specs.Sizes.{family_of}
 use Rattle.files.specs.declared.tagfile.Head.{Head}
 use Rattle.files.specs.TagFile.{code_of, head_of}
@@ -15,7 +15,7 @@ unfolding head_of
 tags-are c = c.tags.ensures ∙ ap (λ (h : Head). (family_of h.code).tags) c.before.head_of.ensures.0
 
 key-long : (c : tie.Start) → length c.args.keys.tag ≡ 16
-key-long c = search needs
+key-long c = search rules
 
 -- the tags read are the file's
 tags-read : (c : tie.After-tags-in) → length c.tags-in.result.now ≡ 16 * c.before.before.tags.result
@@ -43,5 +43,5 @@ returns c =
 pub read-sums-spec : {M : Type 1} → statement M
 read-sums-spec =
     tie.close
-    (tie.spec (λ c κs. search needs) (λ c κs. search needs) (λ c κs. search needs)
-    (λ c κs. search needs) write-sums-requires (λ c. search needs) returns)
+    (tie.spec (λ c κs. search rules) (λ c κs. search rules) (λ c κs. search rules)
+    (λ c κs. search rules) write-sums-requires (λ c. search rules) returns)

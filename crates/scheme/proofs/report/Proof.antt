@@ -1,5 +1,5 @@
 -- Refused, or decoded from the differences of the tags (Comparing); and demand 3 and requests 2.2 and 2.13 (Claiming) and 2.14 (Drifting).
-use Rattle.fips197.proofs.Kit.{refl, ◌∙◌, arith, length, needs}
+use Rattle.fips197.proofs.Kit.{refl, ◌∙◌, arith, length, rules}
 use Rattle.blocks.proofs.Xor.{bytes_from}
 use Rattle.sizes.proofs.Laws.{rows_few, tags_few}
 use Rattle.files.specs.TagFile.{code_of}
@@ -64,4 +64,4 @@ returns-2 c =
 pub report-spec : {M : Type 1} → statement M
 report-spec =
     tie.close
-    (tie.spec (λ c. search needs) (λ c κs. omega (arith, tags_few (code_of c.before.before.before.before.before.args.file.now))) returns (λ c. search needs) decode-files-requires (λ c. search needs) returns-2)
+    (tie.spec (λ c. search rules) (λ c κs. omega (arith, tags_few (code_of c.before.before.before.before.before.args.file.now))) returns (λ c. search rules) decode-files-requires (λ c. search rules) returns-2)

@@ -1,5 +1,5 @@
 -- Refused, or the file (Filing).
-use Rattle.fips197.proofs.Kit.{◌∙◌, needs}
+use Rattle.fips197.proofs.Kit.{◌∙◌, rules}
 use Rattle.scheme.specs.Calls.{tag_writes}
 use Rattle.checks.proofs.Checking.{taggable}
 use Rattle.files.proofs.Passing.{given, kept}
@@ -20,4 +20,4 @@ returns-2 c =
     (r.tag-refusal.ensures, c.before.before.write-tag-file.ensures ∙ given _ _ r.tag-refusal.ensures _ _ c.before.before.before.before.if1.false)
 
 pub tag-spec : {M : Type 1} → statement M
-tag-spec = tie.close (tie.spec (λ c κs. search needs) returns write-tag-file-requires (λ c. search needs) returns-2)
+tag-spec = tie.close (tie.spec (λ c κs. search rules) returns write-tag-file-requires (λ c. search rules) returns-2)

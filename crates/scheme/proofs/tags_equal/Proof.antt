@@ -1,5 +1,5 @@
 -- The tags of the sums, compared with those of the file (Filing).
-use Rattle.fips197.proofs.Kit.{◌≡◌, refl, ap, ap₂, ◌∙◌, ◌*◌, ◌≤◌, arith, length, needs}
+use Rattle.fips197.proofs.Kit.{◌≡◌, refl, ap, ap₂, ◌∙◌, ◌*◌, ◌≤◌, arith, length, rules}
 use Rattle.blocks.specs.Block.{same, zeros}
 use Rattle.sizes.specs.Sizes.{known, family_of}
 use Rattle.sizes.proofs.Laws.{tags_few}
@@ -92,6 +92,6 @@ returns c =
 pub tags-equal-spec : {M : Type 1} → statement M
 tags-equal-spec =
     tie.close
-    (tie.spec (λ c κs. search needs) (λ c κs. search needs) (λ c κs. search needs) (λ c. omega (arith, few c)) (λ c κs. search needs)
-    (λ c. search needs) add-items-requires (λ c κs. search needs) (λ c. search needs) (λ c. search needs) write-tags-requires
-    (λ c. search needs) (λ c. search needs) part-same-end tags-in-requires (λ c κs. search needs) returns)
+    (tie.spec (λ c κs. search rules) (λ c κs. search rules) (λ c κs. search rules) (λ c. omega (arith, few c)) (λ c κs. search rules)
+    (λ c. search rules) add-items-requires (λ c κs. search rules) (λ c. search rules) (λ c. search rules) write-tags-requires
+    (λ c. search rules) (λ c. search rules) part-same-end tags-in-requires (λ c κs. search rules) returns)

@@ -1,5 +1,5 @@
 -- The sums of the tags, both hashes added, then the file of those sums (Filing).
-use Rattle.fips197.proofs.Kit.{◌≡◌, refl, ap, ◌∙◌, true, ℕ, ◌*◌, ◌≤◌, arith, needs}
+use Rattle.fips197.proofs.Kit.{◌≡◌, refl, ap, ◌∙◌, true, ℕ, ◌*◌, ◌≤◌, arith, rules}
 use Rattle.sizes.specs.Sizes.{known, family_of}
 use Rattle.sizes.proofs.Laws.{tags_few}
 use Rattle.files.specs.declared.tagfile.Head.{Head}
@@ -39,14 +39,14 @@ add-item-requires : tie.Need-add-item-requires
 add-item-requires c κs =
     let r = c.before.before.before.before in
     let h = r.before.before in
-    ((start h).requires.0, (code-known h, (omega (arith, few h, r.read-sums.ensures.size), ((start h).requires.1.short-old, search needs))))
+    ((start h).requires.0, (code-known h, (omega (arith, few h, r.read-sums.ensures.size), ((start h).requires.1.short-old, search rules))))
 
 add-item-requires-2 : tie.Need-add-item-requires-2
 add-item-requires-2 c κs =
     let a = c.before.before.before.before in
     let r = a.before.before.before.before.before in
     let h = r.before.before in
-    ((start h).requires.0, (code-known h, (omega (arith, few h, r.read-sums.ensures.size, a.add-item.ensures.0.size), (omega (arith, (start h).requires.1.short-old, (start h).requires.1.short-new), search needs))))
+    ((start h).requires.0, (code-known h, (omega (arith, few h, r.read-sums.ensures.size, a.add-item.ensures.0.size), (omega (arith, (start h).requires.1.short-old, (start h).requires.1.short-new), search rules))))
 
 write-file-requires : tie.Need-write-file-requires
 write-file-requires c κs =
@@ -83,6 +83,6 @@ returns c =
 pub write-replaced-spec : {M : Type 1} → statement M
 write-replaced-spec =
     tie.close
-    (tie.spec (λ c κs. search needs) (λ c κs. search needs) (λ c. search needs) read-sums-requires (λ c κs. search needs)
-    (λ c. search needs) (λ c. search needs) add-item-requires (λ c. search needs) (λ c. search needs) add-item-requires-2 (λ c. search needs) write-file-requires
-    (λ c. search needs) returns)
+    (tie.spec (λ c κs. search rules) (λ c κs. search rules) (λ c. search rules) read-sums-requires (λ c κs. search rules)
+    (λ c. search rules) (λ c. search rules) add-item-requires (λ c. search rules) (λ c. search rules) add-item-requires-2 (λ c. search rules) write-file-requires
+    (λ c. search rules) returns)

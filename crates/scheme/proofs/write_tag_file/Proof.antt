@@ -1,5 +1,5 @@
 -- The sums of the tags, then the file of those sums (Filing).
-use Rattle.fips197.proofs.Kit.{◌≡◌, ap, ◌∙◌, true, ℕ, ◌*◌, ◌≤◌, arith, needs}
+use Rattle.fips197.proofs.Kit.{◌≡◌, ap, ◌∙◌, true, ℕ, ◌*◌, ◌≤◌, arith, rules}
 use Rattle.sizes.specs.Sizes.{known, family_of}
 use Rattle.sizes.proofs.Laws.{tags_few}
 use Rattle.files.specs.declared.tagfile.Head.{Head}
@@ -68,5 +68,5 @@ returns c =
 pub write-tag-file-spec : {M : Type 1} → statement M
 write-tag-file-spec =
     tie.close
-    (tie.spec (λ c κs. search needs) (λ c κs. search needs) (λ c κs. search needs) (λ c. search needs) add-items-requires (λ c. search needs)
-    write-file-requires (λ c. search needs) returns)
+    (tie.spec (λ c κs. search rules) (λ c κs. search rules) (λ c κs. search rules) (λ c. search rules) add-items-requires (λ c. search rules)
+    write-file-requires (λ c. search rules) returns)

@@ -1,5 +1,5 @@
 -- The new session where the refusal's number is 0, else the closed one (Stepping).
-use Rattle.fips197.proofs.Kit.{◌∙◌, arith, needs}
+use Rattle.fips197.proofs.Kit.{◌∙◌, arith, rules}
 use Rattle.session.specs.Session.{closed, begin_refusal, begin_gives}
 use Rattle.files.proofs.Passing.{given, kept}
 use Rattle.session.proofs.Stepping.{begin_tells, begun_is}
@@ -30,4 +30,4 @@ returns-2 c =
     (q.begin-refusal.ensures, c.closed.ensures ∙ kept _ (begin_refusal k d.args.code d.args.n) q.begin-refusal.ensures _ closed c.before.if1.false)
 
 pub begin-spec : {M : Type 1} → statement M
-begin-spec = tie.close (tie.spec (λ c κs. search needs) keys-in-requires returns (λ c κs. search needs) returns-2)
+begin-spec = tie.close (tie.spec (λ c κs. search rules) keys-in-requires returns (λ c κs. search rules) returns-2)

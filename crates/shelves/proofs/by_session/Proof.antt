@@ -1,5 +1,5 @@
 -- At most 64 cards are put.
-use Rattle.fips197.proofs.Kit.{◌≤◌, ◌-◌, needs}
+use Rattle.fips197.proofs.Kit.{◌≤◌, ◌-◌, rules}
 use Rattle.shelves.proofs.by_session.Statement.{statement}
 use Rattle.shelves.proofs.by_session.Tie as tie
 
@@ -12,6 +12,6 @@ decreases-loop s₀ j₀ t7 s j = 64 - j
 pub by-session-spec : {M : Type 1} → statement M
 by-session-spec =
     tie.close
-    (tie.spec invariant-loop decreases-loop (λ c. search needs) (λ c κs. search needs) (λ c. search needs) (λ c. search needs)
-    (λ c κs. search needs) (λ c. search needs) (λ c. search needs) (λ c. search needs) (λ c. search needs) (λ c κs. search needs)
-    (λ c. search needs))
+    (tie.spec invariant-loop decreases-loop (λ c. search rules) (λ c κs. search rules) (λ c. search rules) (λ c. search rules)
+    (λ c κs. search rules) (λ c. search rules) (λ c. search rules) (λ c. search rules) (λ c. search rules) (λ c κs. search rules)
+    (λ c. search rules))

@@ -1,5 +1,5 @@
 -- By its test, or by the definition.
-use Rattle.fips197.proofs.Kit.{sym, needs}
+use Rattle.fips197.proofs.Kit.{sym, rules}
 use Rattle.sizes.specs.Sizes.{affine_code}
 use Rattle.sizes.proofs.Laws.{no_affine}
 use Rattle.sizes.proofs.is_affine.Statement.{statement}
@@ -13,4 +13,4 @@ unfolding affine_code
 returns-2 c = rw (c.sized.ensures, c.before.before.exponent.ensures, c.before.chosen-lines.ensures)
 
 pub is-affine-spec : {M : Type 1} → statement M
-is-affine-spec = tie.close (tie.spec returns (λ c κs. search needs) (λ c κs. search needs) (λ c κs. search needs) returns-2)
+is-affine-spec = tie.close (tie.spec returns (λ c κs. search rules) (λ c κs. search rules) (λ c κs. search rules) returns-2)

@@ -1,5 +1,5 @@
 -- By its two tests.
-use Rattle.fips197.proofs.Kit.{sym, ◌∙◌, needs}
+use Rattle.fips197.proofs.Kit.{sym, ◌∙◌, rules}
 use Rattle.sizes.specs.Sizes.{plane_code, known}
 use Rattle.sizes.proofs.known.Statement.{statement}
 use Rattle.sizes.proofs.known.Tie as tie
@@ -13,4 +13,4 @@ unfolding plane_code known
 returns-2 c = rw (sym c.before.before.inside.ensures ∙ c.before.if1.false) c.is-affine.ensures
 
 pub known-spec : {M : Type 1} → statement M
-known-spec = tie.close (tie.spec (λ c κs. search needs) returns (λ c κs. search needs) returns-2)
+known-spec = tie.close (tie.spec (λ c κs. search rules) returns (λ c κs. search rules) returns-2)

@@ -1,5 +1,5 @@
 -- The affine size's or the plane's (Laws).
-use Rattle.fips197.proofs.Kit.{ap, ◌∙◌, needs}
+use Rattle.fips197.proofs.Kit.{ap, ◌∙◌, rules}
 use Rattle.incidence.specs.Family.{Family}
 use Rattle.plane.specs.Plane.{plane}
 use Rattle.sizes.proofs.Laws.{affine-size, affine_family_lem, plane_family}
@@ -28,4 +28,4 @@ returns-2 c =
 pub limit-spec : {M : Type 1} → statement M
 limit-spec =
     tie.close
-    (tie.spec (λ c κs. search needs) (λ c κs. search needs) (λ c κs. search needs) limit-requires returns (λ c κs. search needs) returns-2)
+    (tie.spec (λ c κs. search rules) (λ c κs. search rules) (λ c κs. search rules) limit-requires returns (λ c κs. search rules) returns-2)

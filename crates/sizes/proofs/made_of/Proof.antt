@@ -1,5 +1,5 @@
 -- The affine size's or the plane's (Laws).
-use Rattle.fips197.proofs.Kit.{ap, needs}
+use Rattle.fips197.proofs.Kit.{ap, rules}
 use Rattle.incidence.specs.Family.{Family}
 use Rattle.incidence.proofs.Listing.{written_as}
 use Rattle.sizes.proofs.Laws.{affine-size, affine_family_lem, plane_family}
@@ -10,7 +10,7 @@ made-of-requires : tie.Need-made-of-requires
 made-of-requires c κs =
     let l = c.before in
     let t = l.before.before in
-    (affine-size t.before.before.args.code t.before.is-affine.ensures t.if1.true l.before.exponent.ensures l.chosen-lines.ensures, search needs)
+    (affine-size t.before.before.args.code t.before.is-affine.ensures t.if1.true l.before.exponent.ensures l.chosen-lines.ensures, search rules)
 
 returns : tie.Need-returns
 returns c =
@@ -29,4 +29,4 @@ returns-2 c =
 pub made-of-spec : {M : Type 1} → statement M
 made-of-spec =
     tie.close
-    (tie.spec (λ c κs. search needs) (λ c κs. search needs) (λ c κs. search needs) made-of-requires returns (λ c κs. search needs) returns-2)
+    (tie.spec (λ c κs. search rules) (λ c κs. search rules) (λ c κs. search rules) made-of-requires returns (λ c κs. search rules) returns-2)

@@ -1,5 +1,5 @@
 -- The affine size's or the plane's (Laws).
-use Rattle.fips197.proofs.Kit.{ap, ◌∙◌, needs}
+use Rattle.fips197.proofs.Kit.{ap, ◌∙◌, rules}
 use Rattle.incidence.specs.Family.{Family}
 use Rattle.sizes.proofs.Laws.{affine-size, affine_family_lem, plane_family}
 use Rattle.sizes.proofs.tag_of_row.Statement.{statement}
@@ -26,4 +26,4 @@ returns-2 c =
 pub tag-of-row-spec : {M : Type 1} → statement M
 tag-of-row-spec =
     tie.close
-    (tie.spec (λ c κs. search needs) (λ c κs. search needs) (λ c κs. search needs) tag-of-row-requires returns (λ c κs. search needs) returns-2)
+    (tie.spec (λ c κs. search rules) (λ c κs. search rules) (λ c κs. search rules) tag-of-row-requires returns (λ c κs. search rules) returns-2)

@@ -1,5 +1,5 @@
 -- Each test settles it (Fronts).
-use Rattle.fips197.proofs.Kit.{◌≡◌, sym, ap, ◌∙◌, ◌+◌, arith, le-leb, lt-leb, not-true, not-false, needs}
+use Rattle.fips197.proofs.Kit.{◌≡◌, sym, ap, ◌∙◌, ◌+◌, arith, le-leb, lt-leb, not-true, not-false, rules}
 use Rattle.incidence.specs.Count.{inside}
 use Rattle.stamp.specs.Front.{front_size, version_of, begins_as}
 use Rattle.stamp.proofs.Fronts.{front_low, begins_as_short, begins_as_other, begins_as_yes}
@@ -50,5 +50,5 @@ returns-5 c = sym (decides c.before ∙ rw (lt-leb _ _ c.if4.false))
 pub begins-as-spec : {M : Type 1} → statement M
 begins-as-spec =
     tie.close
-    (tie.spec returns (λ c. search needs) (λ c. search needs) (λ c. search needs) (λ c κs. search needs) returns-2
-    (λ c κs. search needs) (λ c κs. search needs) (λ c. search needs) returns-3 returns-4 returns-5)
+    (tie.spec returns (λ c. search rules) (λ c. search rules) (λ c. search rules) (λ c κs. search rules) returns-2
+    (λ c κs. search rules) (λ c κs. search rules) (λ c. search rules) returns-3 returns-4 returns-5)

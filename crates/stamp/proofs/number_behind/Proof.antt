@@ -1,5 +1,5 @@
 -- The four bytes behind the version.
-use Rattle.fips197.proofs.Kit.{ap, ◌∙◌, arith, needs}
+use Rattle.fips197.proofs.Kit.{ap, ◌∙◌, arith, rules}
 use Rattle.blocks.specs.Number.{number}
 use Rattle.stamp.proofs.Fronts.{four_at}
 use Rattle.stamp.proofs.number_behind.Statement.{statement}
@@ -11,5 +11,5 @@ returns c = let d = c.before.before.before.before.before.before in c.from-be32.e
 pub number-behind-spec : {M : Type 1} → statement M
 number-behind-spec =
     tie.close
-    (tie.spec (λ c. search needs) (λ c. search needs) (λ c. search needs) (λ c. search needs) (λ c. search needs)
-    (λ c. search needs) (λ c. search needs) (λ c κs. search needs) returns)
+    (tie.spec (λ c. search rules) (λ c. search rules) (λ c. search rules) (λ c. search rules) (λ c. search rules)
+    (λ c. search rules) (λ c. search rules) (λ c κs. search rules) returns)

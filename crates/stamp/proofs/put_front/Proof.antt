@@ -1,5 +1,5 @@
 -- Letters and version, and the number behind them where there is one (Fronts).
-use Rattle.fips197.proofs.Kit.{◌≤◌, arith, length, needs}
+use Rattle.fips197.proofs.Kit.{◌≤◌, arith, length, rules}
 use Rattle.stamp.specs.Front.{front_size}
 use Rattle.stamp.proofs.Fronts.{size_later, front_low, put_length, front-first, front_later}
 use Rattle.stamp.proofs.put_front.Statement.{statement}
@@ -14,7 +14,7 @@ put-number-requires c κs =
     let p = c.before.before.before.before.before in
     let d = p.before.before.before in
     let low : 5 ≤ length d.args.out.now = omega (arith, d.requires, front_low d.args.stamp.version) in
-    let same = put_length d.args.letters (search needs) d.args.stamp d.args.out.now _ p.put-version.ensures low in
+    let same = put_length d.args.letters (search rules) d.args.stamp d.args.out.now _ p.put-version.ensures low in
     omega (arith, d.requires, size_later _ c.before.if1.true, same)
 
 returns : tie.Need-returns
@@ -22,16 +22,16 @@ returns c =
     let n = c.before.before in
     let p = n.before.before.before.before.before.before in
     let d = p.before.before.before in
-    front_later d.args.letters (search needs) d.args.stamp d.args.out.now _ p.put-version.ensures n.before.before.if1.true _ n.put-number.ensures
+    front_later d.args.letters (search rules) d.args.stamp d.args.out.now _ p.put-version.ensures n.before.before.if1.true _ n.put-number.ensures
 
 returns-2 : tie.Need-returns-2
 returns-2 c =
     let p = c.before.before.before.before in
     let d = p.before.before.before in
-    front-first d.args.letters (search needs) d.args.stamp d.args.out.now _ p.put-version.ensures c.if1.false
+    front-first d.args.letters (search rules) d.args.stamp d.args.out.now _ p.put-version.ensures c.if1.false
 
 pub put-front-spec : {M : Type 1} → statement M
 put-front-spec =
     tie.close
-    (tie.spec put-version-requires put-number-requires (λ c. search needs) returns
-    (λ c. search needs) returns-2)
+    (tie.spec put-version-requires put-number-requires (λ c. search rules) returns
+    (λ c. search rules) returns-2)

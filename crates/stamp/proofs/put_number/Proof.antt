@@ -1,5 +1,5 @@
 -- Four stores, the number as to_be32 gives it.
-use Rattle.fips197.proofs.Kit.{◌∙◌, [], ◌∷◌, ◌++◌, append_assoc, arith, get_or, take, drop, length-set, sets-eq, needs}
+use Rattle.fips197.proofs.Kit.{◌∙◌, [], ◌∷◌, ◌++◌, append_assoc, arith, get_or, take, drop, length-set, sets-eq, rules}
 use Rattle.blocks.specs.Number.{big_endian}
 use Rattle.stamp.proofs.put_number.Statement.{statement}
 use Rattle.stamp.proofs.put_number.Tie as tie
@@ -18,6 +18,6 @@ returns c =
 pub put-number-spec : {M : Type 1} → statement M
 put-number-spec =
     tie.close
-    (tie.spec (λ c κs. search needs) (λ c. search needs) (λ c. search needs) (λ c. search needs) (λ c. search needs)
-    (λ c. simp length-set (omega arith)) (λ c. search needs) (λ c. search needs) (λ c. simp length-set (omega arith))
-    (λ c. search needs) (λ c. search needs) (λ c. simp length-set (omega arith)) (λ c. search needs) returns)
+    (tie.spec (λ c κs. search rules) (λ c. search rules) (λ c. search rules) (λ c. search rules) (λ c. search rules)
+    (λ c. simp length-set (omega arith)) (λ c. search rules) (λ c. search rules) (λ c. simp length-set (omega arith))
+    (λ c. search rules) (λ c. search rules) (λ c. simp length-set (omega arith)) (λ c. search rules) returns)

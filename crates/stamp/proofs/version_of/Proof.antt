@@ -1,5 +1,5 @@
 -- The two bytes behind the letters.
-use Rattle.fips197.proofs.Kit.{ap, ◌∙◌, arith, needs}
+use Rattle.fips197.proofs.Kit.{ap, ◌∙◌, arith, rules}
 use Rattle.blocks.specs.Number.{number}
 use Rattle.stamp.specs.Front.{version_of}
 use Rattle.stamp.proofs.Fronts.{two_at}
@@ -12,4 +12,4 @@ returns c = let d = c.before.before.before.before in c.from-be16.ensures ∙ ap 
 
 pub version-of-spec : {M : Type 1} → statement M
 version-of-spec =
-    tie.close (tie.spec (λ c. search needs) (λ c. search needs) (λ c. search needs) (λ c κs. search needs) returns)
+    tie.close (tie.spec (λ c. search rules) (λ c. search rules) (λ c. search rules) (λ c κs. search rules) returns)

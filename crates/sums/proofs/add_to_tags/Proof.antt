@@ -1,5 +1,5 @@
 -- Each turn adds the value to one tag's sum (Walking).
-use Rattle.fips197.proofs.Kit.{◌≡◌, ◌-◌, ◌≤◌, arith, length, get_or, needs}
+use Rattle.fips197.proofs.Kit.{◌≡◌, ◌-◌, ◌≤◌, arith, length, get_or, rules}
 use Rattle.incidence.specs.Family.{Family, tags_of}
 use Rattle.incidence.proofs.Listing.{Member}
 use Rattle.sizes.specs.Sizes.{family_of}
@@ -58,7 +58,7 @@ loop-again : tie.Need-loop-preserved invariant-loop decreases-loop
 loop-again c =
     let q = c.before.before.before.before in
     let l = q.before.loop in
-    let h : length (start q).args.value ≡ 16 = search needs in
+    let h : length (start q).args.value ≡ 16 = search rules in
     walk_next (λ t. (F q).on ((F q).row_of_tag t) (start q).args.j) (F q).tags (start q).args.value _ l.sums _ l.k _ l.invariant (here q) (start q).requires.1 h
     c.before.before.xor-at.ensures
 
@@ -72,5 +72,5 @@ returns c =
 pub add-to-tags-spec : {M : Type 1} → statement M
 add-to-tags-spec =
     tie.close
-    (tie.spec invariant-loop decreases-loop (λ c κs. search needs) loop-holds mul-t array-read-t sub-xor-at mul-xor-at xor-at-requires
-    (λ c. search needs) (λ c. search needs) loop-again (λ c. search needs) returns)
+    (tie.spec invariant-loop decreases-loop (λ c κs. search rules) loop-holds mul-t array-read-t sub-xor-at mul-xor-at xor-at-requires
+    (λ c. search rules) (λ c. search rules) loop-again (λ c. search rules) returns)

@@ -1,5 +1,5 @@
 -- Each turn makes one row, if it has no tag, of rows before it (Filling).
-use Rattle.fips197.proofs.Kit.{◌≡◌, refl, sym, ◌∙◌, ◌+◌, ◌-◌, ◌≤◌, arith, length, needs}
+use Rattle.fips197.proofs.Kit.{◌≡◌, refl, sym, ◌∙◌, ◌+◌, ◌-◌, ◌≤◌, arith, length, rules}
 use Rattle.sizes.specs.Sizes.{family_of}
 use Rattle.sizes.proofs.Laws.{rows_few, lawful}
 use Rattle.sums.proofs.Filling.{Filled, fill_first, fill_stays, fill_makes, fill_done}
@@ -47,7 +47,7 @@ loop-again c =
     let q = t.before in
     let l = q.before.before.loop in
     let d = start q in
-    let h : length m.sum-made.result ≡ 16 = search needs in (
+    let h : length m.sum-made.result ≡ 16 = search rules in (
       l.invariant.0,
       omega (arith, q.before.loop-test.true),
       fill_makes (family_of d.args.code) (lawful d.args.code d.pre.0) _ l.sums l.k _ refl (inside q) l.invariant.2
@@ -73,5 +73,5 @@ returns c =
 pub fill-made-spec : {M : Type 1} → statement M
 fill-made-spec =
     tie.close
-    (tie.spec invariant-loop decreases-loop (λ c κs. search needs) loop-holds (λ c. search needs) (λ c κs. search needs) mul-put-at sum-made-requires
-    put-at-requires (λ c. search needs) loop-again (λ c. search needs) loop-again-2 (λ c. search needs) returns)
+    (tie.spec invariant-loop decreases-loop (λ c κs. search rules) loop-holds (λ c. search rules) (λ c κs. search rules) mul-put-at sum-made-requires
+    put-at-requires (λ c. search rules) loop-again (λ c. search rules) loop-again-2 (λ c. search rules) returns)

@@ -1,5 +1,5 @@
 -- By its two steps (Filling).
-use Rattle.fips197.proofs.Kit.{arith, needs}
+use Rattle.fips197.proofs.Kit.{arith, rules}
 use Rattle.sizes.specs.Sizes.{family_of}
 use Rattle.sizes.proofs.Laws.{lawful}
 use Rattle.sums.proofs.Filling.{fill_both}
@@ -20,4 +20,4 @@ returns c =
     fill_both (family_of d.args.code) (lawful d.args.code d.requires.0) _ _ _ s.spread-tags.ensures m.fill-made.ensures
 
 pub fill-rows-spec : {M : Type 1} → statement M
-fill-rows-spec = tie.close (tie.spec (λ c κs. search needs) fill-made-requires (λ c. search needs) returns)
+fill-rows-spec = tie.close (tie.spec (λ c κs. search rules) fill-made-requires (λ c. search rules) returns)

@@ -1,5 +1,5 @@
 -- Each turn moves a tag's sum to its row, where that has one; the rows before it are as they were (Filling).
-use Rattle.fips197.proofs.Kit.{◌≡◌, ◌-◌, ◌*◌, ◌≤◌, arith, length, needs}
+use Rattle.fips197.proofs.Kit.{◌≡◌, ◌-◌, ◌*◌, ◌≤◌, arith, length, rules}
 use Rattle.sizes.specs.Sizes.{family_of}
 use Rattle.sizes.proofs.Laws.{rows_few, tag_before}
 use Rattle.sums.proofs.Filling.{Spread, spread-first, spread_stays, spread_moves, spread_done}
@@ -54,7 +54,7 @@ loop-again c =
     let t = b.before.before.before in
     let q = t.before in
     let l = q.before.before.loop in
-    let h : length b.block_at.result ≡ 16 = search needs in (
+    let h : length b.block_at.result ≡ 16 = search rules in (
       omega (arith, l.invariant.0),
       spread_moves (family_of (start q).args.code) _ l.sums l.i q.before.loop-test.true l.invariant.0 l.invariant.1 q.tag-of-row.ensures
           t.if1.true (before q) b.block_at.result _ (start q).requires h b.block_at.ensures c.before.before.put-at.ensures,
@@ -76,6 +76,6 @@ returns c =
 pub spread-tags-spec : {M : Type 1} → statement M
 spread-tags-spec =
     tie.close
-    (tie.spec invariant-loop decreases-loop (λ c κs. search needs) loop-holds (λ c κs. search needs) (λ c. search needs) mul-put-at sub-block-at
-    mul-block-at block-at-requires put-at-requires (λ c. search needs) loop-again (λ c. search needs) loop-again-2 (λ c. search needs)
+    (tie.spec invariant-loop decreases-loop (λ c κs. search rules) loop-holds (λ c κs. search rules) (λ c. search rules) mul-put-at sub-block-at
+    mul-block-at block-at-requires put-at-requires (λ c. search rules) loop-again (λ c. search rules) loop-again-2 (λ c. search rules)
     returns)

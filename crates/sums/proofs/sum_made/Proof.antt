@@ -1,5 +1,5 @@
 -- From the last to the first, each turn adds one row (Filling).
-use Rattle.fips197.proofs.Kit.{◌≡◌, ap, ◌∙◌, List, ℕ, ◌-◌, ◌≤◌, ◌<◌, arith, length, get_or, drop, needs}
+use Rattle.fips197.proofs.Kit.{◌≡◌, ap, ◌∙◌, List, ℕ, ◌-◌, ◌≤◌, ◌<◌, arith, length, get_or, drop, rules}
 use Rattle.blocks.specs.Block.{◌⊕◌, slot}
 use Rattle.incidence.specs.Family.{Family}
 use Rattle.incidence.specs.Sum.{sum_of}
@@ -88,5 +88,5 @@ returns c =
 pub sum-made-spec : {M : Type 1} → statement M
 sum-made-spec =
     tie.close
-    (tie.spec invariant-loop decreases-loop (λ c κs. search needs) loop-holds (λ c. search needs) mul-a array-read-a cast-a sub-block-at
-    mul-block-at block-at-requires (λ c κs. search needs) (λ c. search needs) loop-again returns)
+    (tie.spec invariant-loop decreases-loop (λ c κs. search rules) loop-holds (λ c. search rules) mul-a array-read-a cast-a sub-block-at
+    mul-block-at block-at-requires (λ c κs. search rules) (λ c. search rules) loop-again returns)

@@ -1,5 +1,5 @@
 -- Each turn adds one item (Summing).
-use Rattle.fips197.proofs.Kit.{◌≡◌, refl, ap, ◌∙◌, sym, ◌-◌, ◌≤◌, arith, length, length-take, length-drop, needs}
+use Rattle.fips197.proofs.Kit.{◌≡◌, refl, ap, ◌∙◌, sym, ◌-◌, ◌≤◌, arith, length, length-take, length-drop, rules}
 use Rattle.sizes.specs.Sizes.{family_of}
 use Rattle.files.specs.Message.{behind, item}
 use Rattle.files.proofs.Messages.{Fits, behind_more}
@@ -26,7 +26,7 @@ loop-holds c =
     let k = c.before.before.prepare.result in (
       omega (arith, f.1),
       f.0 ∙ ap (behind d.args.s.now) (sym f.1),
-      search needs,
+      search rules,
       refl,
       summed_first (family_of d.args.code) (λ j. item_hash_by (mac_with k) d.args.stamp j (item d.args.s.now j)) d.args.sums.now c.first.result.passed f.1,
     )
@@ -81,8 +81,8 @@ loop-again c =
     let q = l.loop.c in (
       omega (arith, x.next.ensures.1, x.before.before.if1.true),
       x.next.ensures.0 ∙ behind_more s q.passed q.at l.loop.invariant.1 ∙ ap (behind s) (sym x.next.ensures.1),
-      search needs,
-      search needs,
+      search rules,
+      search rules,
       summed_next (family_of d.args.code) (λ j. item_hash_by (mac_with k) st j (item s j)) d.args.sums.now l.loop.sums _ _ q.passed x.next.result.passed x.next.ensures.1
           (ap (item_hash_by (mac_with k) st x.next.result.passed) (item_here s q.passed x.next.result.passed q.at x.next.result.at l.loop.invariant.1 x.next.ensures.1 x.next.ensures.0))
           l.loop.invariant.4 c.before.before.before.add-item.ensures.0,
@@ -100,6 +100,6 @@ returns c =
 pub add-items-spec : {M : Type 1} → statement M
 add-items-spec =
     tie.close
-    (tie.spec invariant-loop decreases-loop (λ c κs. search needs) (λ c κs. search needs) (λ c κs. search needs) loop-holds add_start
+    (tie.spec invariant-loop decreases-loop (λ c κs. search rules) (λ c κs. search rules) (λ c κs. search rules) loop-holds add_start
     next-requires (λ c. omega (arith, c.before.next.ensures.0)) (λ c. omega (arith, c.before.next.ensures.0)) part-add-item-end
-    (λ c. search needs) add-item-requires loop-less loop-again (λ c. search needs) returns)
+    (λ c. search rules) add-item-requires loop-less loop-again (λ c. search rules) returns)

@@ -1,5 +1,5 @@
 -- The message's number and count, in a new stamp.
-use Rattle.fips197.proofs.Kit.{ap, ◌∙◌, arith, needs}
+use Rattle.fips197.proofs.Kit.{ap, ◌∙◌, arith, rules}
 use Rattle.stamp.specs.declared.Stamp.{Stamp}
 use Rattle.files.specs.Message.{items_at}
 use Rattle.files.specs.TagFile.{stamp_for}
@@ -22,4 +22,4 @@ returns c =
     }
 
 pub head-for-spec : {M : Type 1} → statement M
-head-for-spec = tie.close (tie.spec stamp-of-requires (λ c κs. search needs) (λ c κs. search needs) returns)
+head-for-spec = tie.close (tie.spec stamp-of-requires (λ c κs. search rules) (λ c κs. search rules) returns)

@@ -1,5 +1,5 @@
 -- Header, tags and MAC, one behind the other (Writing).
-use Rattle.fips197.proofs.Kit.{◌≡◌, List, ◌++◌, ℕ, ◌+◌, ◌-◌, ◌*◌, ◌≤◌, arith, length, take, drop, length-take, length-drop, put_mid, needs}
+use Rattle.fips197.proofs.Kit.{◌≡◌, List, ◌++◌, ℕ, ◌+◌, ◌-◌, ◌*◌, ◌≤◌, arith, length, take, drop, length-take, length-drop, put_mid, rules}
 use Rattle.cipher.specs.Aes.{encipher}
 use Rattle.blocks.proofs.Loop.{part_back}
 use Rattle.sizes.proofs.Laws.{code_byte_lem, items_few, tags_few}
@@ -55,7 +55,7 @@ module _ (c : tie.After-write-tags) where
   tags = tags_by (encipher start.args.keys.tag) start.args.sums.now made.tags.result
 
   key-long : length start.args.keys.tag ≡ 16
-  key-long = search needs
+  key-long = search rules
 
   written :
       put_mid (place made) (length at.put-header.last.0 - place made) at.put-header.last.0 c.write-tags.new.1.1.1.1.0
@@ -84,10 +84,10 @@ returns c =
 pub write-file-spec : {M : Type 1} → statement M
 write-file-spec =
     tie.close
-    (tie.spec (λ c κs. search needs) (λ c κs. search needs) put-header-requires (λ c κs. search needs)
+    (tie.spec (λ c κs. search rules) (λ c κs. search rules) put-header-requires (λ c κs. search rules)
     (λ c. omega (arith, behind c.before.before.before)) (λ c. omega (arith, behind c.before.before.before))
-    (λ c. search needs)
-    (λ c κs. (search needs, (search needs, simp (length-take, length-drop) (omega (arith, behind c.before.before.before.before)))))
+    (λ c. search rules)
+    (λ c κs. (search rules, (search rules, simp (length-take, length-drop) (omega (arith, behind c.before.before.before.before)))))
     (λ c. omega (arith, few c.before.before.before.before.before.before.before.before.before.before.before.before))
     (λ c. omega (arith, few c.before.before.before.before.before.before.before.before.before.before.before.before))
-    seal-requires (λ c. search needs) returns)
+    seal-requires (λ c. search rules) returns)

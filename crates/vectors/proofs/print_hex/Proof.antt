@@ -1,5 +1,5 @@
 -- The index stays below the length, and a byte fits a u64.
-use Rattle.fips197.proofs.Kit.{◌≤◌, ◌-◌, arith, needs, length}
+use Rattle.fips197.proofs.Kit.{◌≤◌, ◌-◌, arith, rules, length}
 use Rattle.vectors.proofs.print_hex.Statement.{statement}
 use Rattle.vectors.proofs.print_hex.Tie as tie
 
@@ -30,5 +30,5 @@ loop-again c = omega arith
 pub print-hex-spec : {M : Type 1} → statement M
 print-hex-spec =
     tie.close
-    (tie.spec invariant-loop decreases-loop loop-holds shared-slice-read-print-hex cast-print-hex (λ c κs. search needs) add-i loop-less
-    loop-again (λ c. search needs))
+    (tie.spec invariant-loop decreases-loop loop-holds shared-slice-read-print-hex cast-print-hex (λ c κs. search rules) add-i loop-less
+    loop-again (λ c. search rules))

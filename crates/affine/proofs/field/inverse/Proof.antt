@@ -1,5 +1,5 @@
 -- By squares (Computing).
-use Rattle.fips197.proofs.Kit.{◌∙◌, needs}
+use Rattle.fips197.proofs.Kit.{◌∙◌, rules}
 use Rattle.affine.proofs.Computing.{inverse-two, inverse_three}
 use Rattle.affine.proofs.field.inverse.Statement.{statement}
 use Rattle.affine.proofs.field.inverse.Tie as tie
@@ -15,4 +15,4 @@ returns-2 c =
     rw (c.product3.ensures, c.before.product2.ensures, d.product.ensures) (inverse_three _ d.before.requires.0 _ d.before.requires.1 c.before.before.if1.false)
 
 pub inverse-spec : {M : Type 1} → statement M
-inverse-spec = tie.close (tie.spec (λ c κs. search needs) returns (λ c κs. search needs) (λ c κs. search needs) returns-2)
+inverse-spec = tie.close (tie.spec (λ c κs. search rules) returns (λ c κs. search rules) (λ c κs. search rules) returns-2)

@@ -1,5 +1,5 @@
 -- As a sum of three (Computing).
-use Rattle.fips197.proofs.Kit.{◌∙◌, ℕ, ◌%◌, ◌/◌, ◌^◌, ◌≤◌, ◌<◌, arith, mod-lt, zero-lt-suc, needs}
+use Rattle.fips197.proofs.Kit.{◌∙◌, ℕ, ◌%◌, ◌/◌, ◌^◌, ◌≤◌, ◌<◌, arith, mod-lt, zero-lt-suc, rules}
 use Rattle.affine.specs.Field.{product}
 use Rattle.affine.proofs.Computing.{elements_few, times_small, product_is, reduced-low, bit_times}
 use Rattle.affine.proofs.field.product.Statement.{statement}
@@ -62,4 +62,4 @@ returns c =
 pub product-spec : {M : Type 1} → statement M
 product-spec =
     tie.close
-    (tie.spec (λ c κs. search needs) rem-by rem-once times-x-requires times-x-requires-2 mul-result mul-result-2 mul-result-3 returns)
+    (tie.spec (λ c κs. search rules) rem-by rem-once times-x-requires times-x-requires-2 mul-result mul-result-2 mul-result-3 returns)

@@ -1,5 +1,5 @@
 -- By its test (Computing).
-use Rattle.fips197.proofs.Kit.{◌*◌, ◌^◌, arith, lt-ltb, le-ltb, needs}
+use Rattle.fips197.proofs.Kit.{◌*◌, ◌^◌, arith, lt-ltb, le-ltb, rules}
 use Rattle.affine.specs.Field.{element_times_x}
 use Rattle.affine.proofs.Computing.{elements_few}
 use Rattle.affine.proofs.field.times_x.Statement.{statement}
@@ -22,4 +22,4 @@ returns-2 c =
     rw (le-ltb (d.before.args.a * 2) (2 ^ d.before.args.s) (omega (arith, c.before.if1.false, d.elements.ensures)), c.polynomial.ensures)
 
 pub times-x-spec : {M : Type 1} → statement M
-times-x-spec = tie.close (tie.spec mul-if1 (λ c κs. search needs) (λ c. search needs) returns mul-result-2 (λ c κs. search needs) returns-2)
+times-x-spec = tie.close (tie.spec mul-if1 (λ c κs. search rules) (λ c. search rules) returns mul-result-2 (λ c κs. search rules) returns-2)

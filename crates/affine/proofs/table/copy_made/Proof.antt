@@ -1,5 +1,5 @@
 -- The row's part of the tables, which stands behind its length (Tables).
-use Rattle.fips197.proofs.Kit.{◌+◌, ◌-◌, ◌*◌, ◌/◌, ◌<◌, arith, needs}
+use Rattle.fips197.proofs.Kit.{◌+◌, ◌-◌, ◌*◌, ◌/◌, ◌<◌, arith, rules}
 use Rattle.incidence.proofs.Listing.{written_as}
 use Rattle.affine.proofs.Tables.{made_room, made_part, made_few, index_high, rows-high}
 use Rattle.affine.proofs.table.copy_made.Statement.{statement}
@@ -42,6 +42,6 @@ returns c =
 pub copy-made-spec : {M : Type 1} → statement M
 copy-made-spec =
     tie.close
-    (tie.spec (λ c κs. search needs) (λ c. omega (arith, low c)) (λ c. search needs) (λ c. omega (arith, low c)) (λ c κs. low c) (λ c. search needs)
-    (λ c κs. (c.wide-entry.ensures.1, omega arith)) (λ c. omega (arith, c.skip.ensures.1, c.before.wide-entry.ensures.1)) (λ c κs. search needs)
-    (λ c. omega (arith, c.entry.ensures.1, c.before.skip.ensures.1, c.before.before.wide-entry.ensures.1)) (λ c. search needs) (λ c. search needs) part-copy-end copy-requires (λ c. search needs) returns)
+    (tie.spec (λ c κs. search rules) (λ c. omega (arith, low c)) (λ c. search rules) (λ c. omega (arith, low c)) (λ c κs. low c) (λ c. search rules)
+    (λ c κs. (c.wide-entry.ensures.1, omega arith)) (λ c. omega (arith, c.skip.ensures.1, c.before.wide-entry.ensures.1)) (λ c κs. search rules)
+    (λ c. omega (arith, c.entry.ensures.1, c.before.skip.ensures.1, c.before.before.wide-entry.ensures.1)) (λ c. search rules) (λ c. search rules) part-copy-end copy-requires (λ c. search rules) returns)

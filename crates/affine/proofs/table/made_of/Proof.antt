@@ -1,5 +1,5 @@
 -- The tables are those that the definitions give (Tables).
-use Rattle.fips197.proofs.Kit.{refl, needs}
+use Rattle.fips197.proofs.Kit.{refl, rules}
 use Rattle.affine.specs.Field.{polynomial, element_times_x, product_over, product, element_power, element_inverse}
 use Rattle.affine.specs.Lines.{points, x_of, y_of, on_line, chosen, affine_items, is_row}
 use Rattle.affine.specs.Elimination.{has, greatest, add, reduced, reduced_by, remainder_of, next}
@@ -18,4 +18,4 @@ copy-made-requires c κs =
     (b.requires.0, (p, made_in b.args.s b.args.l b.args.i b.requires.0 _ _ p.0 p.1 refl))
 
 pub made-of-spec : {M : Type 1} → statement M
-made-of-spec = tie.close (tie.spec (λ c. search needs) (λ c. search needs) copy-made-requires (λ c. search needs) (λ c. search needs))
+made-of-spec = tie.close (tie.spec (λ c. search rules) (λ c. search rules) copy-made-requires (λ c. search rules) (λ c. search rules))

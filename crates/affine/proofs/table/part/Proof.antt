@@ -1,5 +1,5 @@
 -- The size's 64 entries are among the 640 (Tables).
-use Rattle.fips197.proofs.Kit.{◌≡◌, ◌+◌, ◌-◌, ◌*◌, ◌≤◌, arith, needs}
+use Rattle.fips197.proofs.Kit.{◌≡◌, ◌+◌, ◌-◌, ◌*◌, ◌≤◌, arith, rules}
 use Rattle.affine.proofs.Tables.{index_high}
 use Rattle.affine.proofs.table.part.Statement.{statement}
 use Rattle.affine.proofs.table.part.Tie as tie
@@ -16,5 +16,5 @@ returns c =
 pub part-spec : {M : Type 1} → statement M
 part-spec =
     tie.close
-    (tie.spec (λ c κs. search needs) (λ c. omega (arith, few c)) (λ c. omega (arith, few c)) (λ c. search needs) (λ c. search needs)
+    (tie.spec (λ c κs. search rules) (λ c. omega (arith, few c)) (λ c. omega (arith, few c)) (λ c. search rules) (λ c. search rules)
     (λ c. omega (arith, few c, c.before.before.requires.1)) returns)

@@ -1,5 +1,5 @@
 -- The size's part of the table (Tables).
-use Rattle.fips197.proofs.Kit.{refl, ap, ◌+◌, ◌-◌, ◌*◌, ◌<◌, ℕ, arith, needs}
+use Rattle.fips197.proofs.Kit.{refl, ap, ◌+◌, ◌-◌, ◌*◌, ◌<◌, ℕ, arith, rules}
 use Rattle.affine.specs.Field.{polynomial, element_times_x, product_over, product}
 use Rattle.affine.specs.Lines.{points, x_of, y_of, on_line, chosen, is_row}
 use Rattle.affine.specs.Walk.{size_index}
@@ -28,4 +28,4 @@ returns c =
     point_read b.args.s b.args.l b.requires.0 _ _ c.entry.ensures.0 (ap (λ (z : ℕ). 64 * z + (b.args.i - 1)) d.index.ensures) b.requires.1.0 b.requires.1.1 refl
 
 pub point-of-spec : {M : Type 1} → statement M
-point-of-spec = tie.close (tie.spec (λ c κs. search needs) mul-k (λ c. search needs) add-k (λ c. search needs) (λ c κs. search needs) returns)
+point-of-spec = tie.close (tie.spec (λ c κs. search rules) mul-k (λ c. search rules) add-k (λ c. search rules) (λ c κs. search rules) returns)

@@ -1,5 +1,5 @@
 -- A list a turn, of fewer than 256 entries.
-use Rattle.fips197.proofs.Kit.{◌≡◌, refl, sym, ap, ◌∙◌, List, ℕ, ◌+◌, ◌-◌, ◌*◌, ◌≤◌, add-one, arith, needs}
+use Rattle.fips197.proofs.Kit.{◌≡◌, refl, sym, ap, ◌∙◌, List, ℕ, ◌+◌, ◌-◌, ◌*◌, ◌≤◌, add-one, arith, rules}
 use Rattle.affine.specs.Walk.{entry_of, past_lists}
 use Rattle.affine.proofs.table.skip.Statement.{statement}
 use Rattle.affine.proofs.table.skip.Tie as tie
@@ -36,5 +36,5 @@ returns c =
 pub skip-spec : {M : Type 1} → statement M
 skip-spec =
     tie.close
-    (tie.spec invariant-loop decreases-loop loop-holds (λ c κs. search needs) (λ c. omega (arith, c.entry.ensures.1)) (λ c. omega (arith, c.entry.ensures.1, c.before.before.loop.invariant.2, c.before.before.before.before.requires.0))
-    (λ c. search needs) (λ c. search needs) loop-again returns)
+    (tie.spec invariant-loop decreases-loop loop-holds (λ c κs. search rules) (λ c. omega (arith, c.entry.ensures.1)) (λ c. omega (arith, c.entry.ensures.1, c.before.before.loop.invariant.2, c.before.before.before.before.requires.0))
+    (λ c. search rules) (λ c. search rules) loop-again returns)

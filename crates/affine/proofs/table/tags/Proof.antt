@@ -1,5 +1,5 @@
 -- The counts (Tables).
-use Rattle.fips197.proofs.Kit.{refl, needs}
+use Rattle.fips197.proofs.Kit.{refl, rules}
 use Rattle.affine.specs.Affine.{tag_numbers}
 use Rattle.affine.specs.Walk.{size_index}
 use Rattle.affine.proofs.Tables.{number_test, numbers_test, tags_read}
@@ -13,4 +13,4 @@ returns c =
     tags_read b.args.s b.args.l b.requires _ _ c.entry.ensures.0 c.before.index.ensures refl
 
 pub tags-spec : {M : Type 1} → statement M
-tags-spec = tie.close (tie.spec (λ c. search needs) (λ c κs. search needs) (λ c κs. search needs) returns)
+tags-spec = tie.close (tie.spec (λ c. search rules) (λ c κs. search rules) (λ c κs. search rules) returns)

@@ -1,5 +1,5 @@
 -- By the definition.
-use Rattle.fips197.proofs.Kit.{ap₂, arith, ℕ, ◌+◌, ◌*◌, needs}
+use Rattle.fips197.proofs.Kit.{ap₂, arith, ℕ, ◌+◌, ◌*◌, rules}
 use Rattle.affine.specs.Walk.{wide_entry_of}
 use Rattle.affine.proofs.table.wide_entry.Statement.{statement}
 use Rattle.affine.proofs.table.wide_entry.Tie as tie
@@ -14,5 +14,5 @@ returns c =
 pub wide-entry-spec : {M : Type 1} → statement M
 wide-entry-spec =
     tie.close
-    (tie.spec (λ c. omega (arith, c.before.requires)) (λ c κs. search needs) (λ c. omega (arith, c.entry.ensures.1)) (λ c. search needs)
-    (λ c. omega (arith, c.before.before.requires)) (λ c κs. search needs) (λ c. omega (arith, c.entry2.ensures.1, c.before.entry.ensures.1)) returns)
+    (tie.spec (λ c. omega (arith, c.before.requires)) (λ c κs. search rules) (λ c. omega (arith, c.entry.ensures.1)) (λ c. search rules)
+    (λ c. omega (arith, c.before.before.requires)) (λ c κs. search rules) (λ c. omega (arith, c.entry2.ensures.1, c.before.entry.ensures.1)) returns)

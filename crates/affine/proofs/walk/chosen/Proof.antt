@@ -1,5 +1,5 @@
 -- By its test.
-use Rattle.fips197.proofs.Kit.{arith, ◌^◌, le-leb, lt-leb, needs}
+use Rattle.fips197.proofs.Kit.{arith, ◌^◌, le-leb, lt-leb, rules}
 use Rattle.affine.specs.Lines.{chosen}
 use Rattle.affine.proofs.walk.chosen.Statement.{statement}
 use Rattle.affine.proofs.walk.chosen.Tie as tie
@@ -17,4 +17,4 @@ returns-2 c =
     rw (lt-leb a.k (2 ^ a.s) (omega (arith, c.if1.false, c.before.elements.ensures)))
 
 pub chosen-spec : {M : Type 1} → statement M
-chosen-spec = tie.close (tie.spec (λ c κs. search needs) (λ c. search needs) returns returns-2)
+chosen-spec = tie.close (tie.spec (λ c κs. search rules) (λ c. search rules) returns returns-2)

@@ -1,5 +1,5 @@
 -- By its test.
-use Rattle.fips197.proofs.Kit.{arith, ◌≤◌, ◌^◌, ◌-◌, ◌<◌, eq-eqb, ne_eqb, needs}
+use Rattle.fips197.proofs.Kit.{arith, ◌≤◌, ◌^◌, ◌-◌, ◌<◌, eq-eqb, ne_eqb, rules}
 use Rattle.affine.specs.Lines.{x_of, y_of}
 use Rattle.affine.specs.Walk.{chosen_at}
 use Rattle.affine.proofs.Computing.{elements_few, reduced-low}
@@ -39,5 +39,5 @@ returns-2 c =
 pub chosen-at-spec : {M : Type 1} → statement M
 chosen-at-spec =
     tie.close
-    (tie.spec (λ c κs. search needs) (λ c. search needs) (λ c. omega (arith, (some c).0)) (λ c. omega (arith, (some c.before).1)) returns inverse-requires
-    (λ c. search needs) (λ c. omega (arith, (some c.before.before).0)) (λ c κs. search needs) add-result-2 returns-2)
+    (tie.spec (λ c κs. search rules) (λ c. search rules) (λ c. omega (arith, (some c).0)) (λ c. omega (arith, (some c.before).1)) returns inverse-requires
+    (λ c. search rules) (λ c. omega (arith, (some c.before.before).0)) (λ c κs. search rules) add-result-2 returns-2)

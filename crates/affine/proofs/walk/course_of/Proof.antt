@@ -1,5 +1,5 @@
 -- By its test.
-use Rattle.fips197.proofs.Kit.{eq-eqb, ne_eqb, needs}
+use Rattle.fips197.proofs.Kit.{eq-eqb, ne_eqb, rules}
 use Rattle.affine.specs.Walk.{course_of}
 use Rattle.affine.proofs.walk.course_of.Statement.{statement}
 use Rattle.affine.proofs.walk.course_of.Tie as tie
@@ -16,4 +16,4 @@ returns-2 c =
 pub course-of-spec : {M : Type 1} → statement M
 course-of-spec =
     tie.close
-    (tie.spec (λ c κs. search needs) (λ c κs. search needs) returns (λ c κs. search needs) (λ c κs. search needs) (λ c κs. search needs) returns-2)
+    (tie.spec (λ c κs. search rules) (λ c κs. search rules) returns (λ c κs. search rules) (λ c κs. search rules) (λ c κs. search rules) returns-2)

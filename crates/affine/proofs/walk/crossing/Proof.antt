@@ -1,5 +1,5 @@
 -- By the definition.
-use Rattle.fips197.proofs.Kit.{arith, ◌≤◌, needs}
+use Rattle.fips197.proofs.Kit.{arith, ◌≤◌, rules}
 use Rattle.affine.specs.Lines.{crossing}
 use Rattle.affine.proofs.Computing.{elements_few}
 use Rattle.affine.proofs.walk.crossing.Statement.{statement}
@@ -13,4 +13,4 @@ unfolding crossing
 returns c = rw c.elements.ensures
 
 pub crossing-spec : {M : Type 1} → statement M
-crossing-spec = tie.close (tie.spec (λ c κs. search needs) (λ c. omega (arith, some c)) (λ c. omega (arith, some c)) returns)
+crossing-spec = tie.close (tie.spec (λ c κs. search rules) (λ c. omega (arith, some c)) (λ c. omega (arith, some c)) returns)

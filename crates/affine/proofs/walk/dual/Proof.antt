@@ -1,5 +1,5 @@
 -- By the definition.
-use Rattle.fips197.proofs.Kit.{arith, ◌≤◌, needs}
+use Rattle.fips197.proofs.Kit.{arith, ◌≤◌, rules}
 use Rattle.affine.specs.Lines.{x_of, y_of}
 use Rattle.affine.specs.Walk.{dual}
 use Rattle.affine.proofs.Computing.{elements_few}
@@ -16,4 +16,4 @@ returns c = rw c.elements.ensures
 pub dual-spec : {M : Type 1} → statement M
 dual-spec =
     tie.close
-    (tie.spec (λ c κs. search needs) (λ c. search needs) (λ c. omega (arith, some c)) (λ c. search needs) (λ c. omega (arith, some c)) returns)
+    (tie.spec (λ c κs. search rules) (λ c. search rules) (λ c. omega (arith, some c)) (λ c. search rules) (λ c. omega (arith, some c)) returns)

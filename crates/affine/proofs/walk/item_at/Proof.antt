@@ -1,5 +1,5 @@
 -- By its tests.
-use Rattle.fips197.proofs.Kit.{◌∙◌, ap, ℕ, ◌+◌, ◌-◌, ◌^◌, ◌≤◌, ◌<◌, arith, eq-eqb, ne_eqb, needs}
+use Rattle.fips197.proofs.Kit.{◌∙◌, ap, ℕ, ◌+◌, ◌-◌, ◌^◌, ◌≤◌, ◌<◌, arith, eq-eqb, ne_eqb, rules}
 use Rattle.affine.specs.declared.Course.{Course}
 use Rattle.affine.specs.Walk.{through_at, through_count, place_on}
 use Rattle.affine.proofs.Computing.{points_few, elements_few, sized-offered, sized-high}
@@ -55,5 +55,5 @@ returns-3 c =
 pub item-at-spec : {M : Type 1} → statement M
 item-at-spec =
     tie.close
-    (tie.spec add-result returns (λ c κs. (sized-offered _ _ c.before.before.requires.0, c.before.before.requires.1.0)) returns-2 (λ c. search needs) place-on-requires
+    (tie.spec add-result returns (λ c κs. (sized-offered _ _ c.before.before.requires.0, c.before.before.requires.1.0)) returns-2 (λ c. search rules) place-on-requires
     (λ c. omega (arith, (point c).1, few c)) (λ c. omega (arith, (point c).0)) returns-3)

@@ -1,5 +1,5 @@
 -- By its test.
-use Rattle.fips197.proofs.Kit.{arith, eq-eqb, ne_eqb, needs}
+use Rattle.fips197.proofs.Kit.{arith, eq-eqb, ne_eqb, rules}
 use Rattle.affine.specs.Walk.{through_count}
 use Rattle.affine.proofs.Computing.{elements_few}
 use Rattle.affine.proofs.walk.item_count.Statement.{statement}
@@ -17,4 +17,4 @@ unfolding through_count
 returns-2 c = rw (ne_eqb _ _ c.before.if1.false, c.elements.ensures)
 
 pub item-count-spec : {M : Type 1} → statement M
-item-count-spec = tie.close (tie.spec (λ c κs. search needs) add-result returns returns-2)
+item-count-spec = tie.close (tie.spec (λ c κs. search rules) add-result returns returns-2)

@@ -1,5 +1,5 @@
 -- Through the row's point, or nothing where there is no such row (Walks).
-use Rattle.fips197.proofs.Kit.{◌≡◌, sym, ap, ◌∙◌, true, ℕ, ◌≤◌, drop, ◌++◌, needs}
+use Rattle.fips197.proofs.Kit.{◌≡◌, sym, ap, ◌∙◌, true, ℕ, ◌≤◌, drop, ◌++◌, rules}
 use Rattle.incidence.specs.Count.{inside}
 use Rattle.incidence.specs.Family.{items_of}
 use Rattle.incidence.proofs.Listing.{written_as, written_none}
@@ -86,4 +86,4 @@ returns-2 c =
 pub items-of-spec : {M : Type 1} → statement M
 items-of-spec =
     tie.close
-    (tie.spec (λ c κs. search needs) (λ c κs. search needs) point-of-requires dual-requires course-of-requires write-items-requires (λ c. search needs) returns returns-2)
+    (tie.spec (λ c κs. search rules) (λ c κs. search rules) point-of-requires dual-requires course-of-requires write-items-requires (λ c. search rules) returns returns-2)

@@ -1,5 +1,5 @@
 -- From the table, or nothing where there is no such row (Steps).
-use Rattle.fips197.proofs.Kit.{needs}
+use Rattle.fips197.proofs.Kit.{rules}
 use Rattle.incidence.proofs.Counting.{inside-low, inside-high, inside_of}
 use Rattle.incidence.proofs.Listing.{written_none}
 use Rattle.affine.specs.Affine.{affine_family}
@@ -25,4 +25,4 @@ returns-2 c =
     written_none a.out.now (made_out a.s a.l a.i (inside_of a.i d.rows.ensures c.before.inside.ensures c.if1.false))
 
 pub made-of-spec : {M : Type 1} → statement M
-made-of-spec = tie.close (tie.spec (λ c κs. search needs) (λ c κs. search needs) made-of-requires (λ c. search needs) (λ c. search needs) returns-2)
+made-of-spec = tie.close (tie.spec (λ c κs. search rules) (λ c κs. search rules) made-of-requires (λ c. search rules) (λ c. search rules) returns-2)

@@ -1,5 +1,5 @@
 -- By its test: a place is a point, and points are few (Steps).
-use Rattle.fips197.proofs.Kit.{◌+◌, ◌*◌, ◌≤◌, arith, bit_xor, needs}
+use Rattle.fips197.proofs.Kit.{◌+◌, ◌*◌, ◌≤◌, arith, bit_xor, rules}
 use Rattle.affine.specs.Walk.{place_on}
 use Rattle.affine.proofs.Computing.{points_few}
 use Rattle.affine.proofs.Steps.{level_place, sloping_place, rows_before}
@@ -38,5 +38,5 @@ returns-2 c = rw (c.before.before.if1.false, c.before.before.before.elements.ens
 pub place-on-spec : {M : Type 1} → statement M
 place-on-spec =
     tie.close
-    (tie.spec (λ c κs. search needs) (λ c. omega (arith, level c)) (λ c. omega (arith, level c)) (λ c. omega (arith, level c)) returns mul-result-2
-    (λ c κs. search needs) (λ c. omega (arith, sloping c)) (λ c. omega (arith, sloping c)) returns-2)
+    (tie.spec (λ c κs. search rules) (λ c. omega (arith, level c)) (λ c. omega (arith, level c)) (λ c. omega (arith, level c)) returns mul-result-2
+    (λ c κs. search rules) (λ c. omega (arith, sloping c)) (λ c. omega (arith, sloping c)) returns-2)

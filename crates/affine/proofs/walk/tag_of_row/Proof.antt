@@ -1,5 +1,5 @@
 -- The row's entry, or nothing where there is no such row (Steps).
-use Rattle.fips197.proofs.Kit.{sym, needs}
+use Rattle.fips197.proofs.Kit.{sym, rules}
 use Rattle.incidence.proofs.Counting.{inside-low, inside-high, inside_of}
 use Rattle.affine.specs.Affine.{affine_family}
 use Rattle.affine.proofs.Steps.{tag_out}
@@ -21,4 +21,4 @@ returns-2 c =
     sym (tag_out _ _ _ (inside_of d.before.args.i d.rows.ensures c.before.inside.ensures c.if1.false))
 
 pub tag-of-row-spec : {M : Type 1} → statement M
-tag-of-row-spec = tie.close (tie.spec (λ c κs. search needs) (λ c κs. search needs) row-tag-requires (λ c. search needs) returns-2)
+tag-of-row-spec = tie.close (tie.spec (λ c κs. search rules) (λ c κs. search rules) row-tag-requires (λ c. search rules) returns-2)

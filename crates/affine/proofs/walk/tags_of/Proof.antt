@@ -1,5 +1,5 @@
 -- Along the item's line, or nothing where there is no such item (Walks); the table has the tag at each point (Tables).
-use Rattle.fips197.proofs.Kit.{◌≡◌, refl, sym, true, ◌^◌, needs}
+use Rattle.fips197.proofs.Kit.{◌≡◌, refl, sym, true, ◌^◌, rules}
 use Rattle.incidence.specs.Count.{inside}
 use Rattle.incidence.specs.Family.{tags_of}
 use Rattle.incidence.proofs.Listing.{written_as, written_none}
@@ -70,5 +70,5 @@ returns-2 c =
 pub tags-of-spec : {M : Type 1} → statement M
 tags-of-spec =
     tie.close
-    (tie.spec (λ c κs. search needs) (λ c κs. search needs) line-of-requires course-of-requires (λ c. search needs) (λ c κs. search needs) write-tags-requires
-    (λ c. search needs) returns returns-2)
+    (tie.spec (λ c κs. search rules) (λ c κs. search rules) line-of-requires course-of-requires (λ c. search rules) (λ c κs. search rules) write-tags-requires
+    (λ c. search rules) returns returns-2)

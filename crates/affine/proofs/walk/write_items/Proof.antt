@@ -1,5 +1,5 @@
 -- Each turn stores one number (blocks, Loop).
-use Rattle.fips197.proofs.Kit.{◌≡◌, sym, ◌∙◌, ◌-◌, ◌≤◌, arith, length, needs}
+use Rattle.fips197.proofs.Kit.{◌≡◌, sym, ◌∙◌, ◌-◌, ◌≤◌, arith, length, rules}
 use Rattle.blocks.proofs.Loop.{part, part_turn, part_front}
 use Rattle.affine.specs.Walk.{firsts, through_at, through_count}
 use Rattle.affine.proofs.Computing.{sized-offered}
@@ -38,7 +38,7 @@ loop-again c =
     let f = through_at b.args.s b.args.l b.args.p in
     let n = through_count b.args.s b.args.l b.args.p in (
       omega arith,
-      search needs,
+      search rules,
       part_turn k (firsts f n) b.args.out.now l.loop.out _ l.loop.invariant.2
           (omega (arith, c.before.loop-test.true, few d, b.requires.1.1)) (omega (arith, c.before.loop-test.true, d.item_count.ensures, firsts-length f n))
           (c.item-at.ensures ∙ sym (firsts_at f n k (omega (arith, c.before.loop-test.true, d.item_count.ensures)))),
@@ -56,5 +56,5 @@ returns c =
 pub write-items-spec : {M : Type 1} → statement M
 write-items-spec =
     tie.close
-    (tie.spec invariant-loop decreases-loop (λ c κs. sized-offered _ _ c.before.requires.0) (λ c. search needs) item-at-requires
-    (λ c. omega (arith, c.before.loop-test.true, few c.before.before.before)) slice-write-out (λ c. search needs) (λ c. search needs) loop-again (λ c. search needs) returns)
+    (tie.spec invariant-loop decreases-loop (λ c κs. sized-offered _ _ c.before.requires.0) (λ c. search rules) item-at-requires
+    (λ c. omega (arith, c.before.loop-test.true, few c.before.before.before)) slice-write-out (λ c. search rules) (λ c. search rules) loop-again (λ c. search rules) returns)

@@ -1,5 +1,5 @@
 -- Each turn takes the next place of the course (Steps).
-use Rattle.fips197.proofs.Kit.{◌≡◌, refl, ap, ◌∙◌, subst, ⊎_elim, List, ℕ, ◌++◌, ◌-◌, ◌≤◌, ◌^◌, arith, length, length-set, get_or, drop, needs}
+use Rattle.fips197.proofs.Kit.{◌≡◌, refl, ap, ◌∙◌, subst, ⊎_elim, List, ℕ, ◌++◌, ◌-◌, ◌≤◌, ◌^◌, arith, length, length-set, get_or, drop, rules}
 use Rattle.affine.specs.Walk.{place_on, met}
 use Rattle.affine.proofs.Computing.{elements_few, points_few}
 use Rattle.affine.proofs.Walks.{met_few}
@@ -99,5 +99,5 @@ returns c =
 pub write-tags-spec : {M : Type 1} → statement M
 write-tags-spec =
     tie.close
-    (tie.spec invariant-loop decreases-loop (λ c κs. search needs) loop-holds place-on-requires (λ c. omega (arith, (point c).0)) read-requires (λ c. omega (arith, room c.before))
-    slice-write-out (λ c. omega (arith, room c.before)) (λ c. search needs) (λ c. search needs) loop-again (λ c. search needs) returns)
+    (tie.spec invariant-loop decreases-loop (λ c κs. search rules) loop-holds place-on-requires (λ c. omega (arith, (point c).0)) read-requires (λ c. omega (arith, room c.before))
+    slice-write-out (λ c. omega (arith, room c.before)) (λ c. search rules) (λ c. search rules) loop-again (λ c. search rules) returns)

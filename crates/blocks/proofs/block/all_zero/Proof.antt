@@ -1,5 +1,5 @@
 -- Each turn looks at one block; those before it are zero (Zeros).
-use Rattle.fips197.proofs.Kit.{◌≡◌, refl, sym, ap, ◌∙◌, true, ◌-◌, ◌≤◌, arith, not-true, not-false, needs}
+use Rattle.fips197.proofs.Kit.{◌≡◌, refl, sym, ap, ◌∙◌, true, ◌-◌, ◌≤◌, arith, not-true, not-false, rules}
 use Rattle.blocks.specs.Block.{slot, all_zero}
 use Rattle.blocks.proofs.Zeros.{zeros-next, zeros_stop}
 use Rattle.blocks.proofs.block.all_zero.Statement.{statement}
@@ -36,5 +36,5 @@ returns-2 c =
 pub all-zero-spec : {M : Type 1} → statement M
 all-zero-spec =
     tie.close
-    (tie.spec invariant-loop decreases-loop loop-holds (λ c. search needs) (λ c κs. search needs) returns (λ c. search needs) (λ c. search needs)
+    (tie.spec invariant-loop decreases-loop loop-holds (λ c. search rules) (λ c κs. search rules) returns (λ c. search rules) (λ c. search rules)
     loop-again returns-2)

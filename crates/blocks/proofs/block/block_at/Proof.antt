@@ -1,5 +1,5 @@
 -- Each turn reads one byte (Loop).
-use Rattle.fips197.proofs.Kit.{◌≡◌, refl, sym, ◌∙◌, ◌-◌, ◌≤◌, arith, length, take, drop, length-drop, length-take, get_or-take, get_or-drop, needs}
+use Rattle.fips197.proofs.Kit.{◌≡◌, refl, sym, ◌∙◌, ◌-◌, ◌≤◌, arith, length, take, drop, length-drop, length-take, get_or-take, get_or-drop, rules}
 use Rattle.blocks.proofs.Loop.{part, part_turn, part_done}
 use Rattle.blocks.proofs.block.block_at.Statement.{statement}
 use Rattle.blocks.proofs.block.block_at.Tie as tie
@@ -35,5 +35,5 @@ returns c =
 pub block-at-spec : {M : Type 1} → statement M
 block-at-spec =
     tie.close
-    (tie.spec invariant-loop decreases-loop loop-holds (λ c. search needs) (λ c. search needs) (λ c. search needs) (λ c. search needs)
-    (λ c. search needs) loop-again returns)
+    (tie.spec invariant-loop decreases-loop loop-holds (λ c. search rules) (λ c. search rules) (λ c. search rules) (λ c. search rules)
+    (λ c. search rules) loop-again returns)

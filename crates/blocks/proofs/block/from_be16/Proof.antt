@@ -1,5 +1,5 @@
 -- Both sides are 256 times the first and the second.
-use Rattle.fips197.proofs.Kit.{arith, needs}
+use Rattle.fips197.proofs.Kit.{arith, rules}
 use Rattle.blocks.specs.Number.{number_of, number}
 use Rattle.blocks.proofs.block.from_be16.Statement.{statement}
 use Rattle.blocks.proofs.block.from_be16.Tie as tie
@@ -9,4 +9,4 @@ unfolding number number_of
 returns c = omega arith
 
 pub from-be16-spec : {M : Type 1} → statement M
-from-be16-spec = tie.close (tie.spec (λ c. search needs) (λ c. search needs) returns)
+from-be16-spec = tie.close (tie.spec (λ c. search rules) (λ c. search rules) returns)

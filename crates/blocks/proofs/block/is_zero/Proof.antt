@@ -1,5 +1,5 @@
 -- The OR of the bytes passed and the bytes left decide (Zeros).
-use Rattle.fips197.proofs.Kit.{◌≡◌, refl, sym, ◌∙◌, ◌&&◌, ◌-◌, ◌≤◌, arith, eqb, length, take, drop, length-drop, length-take, get_or-take, get_or-drop, needs}
+use Rattle.fips197.proofs.Kit.{◌≡◌, refl, sym, ◌∙◌, ◌&&◌, ◌-◌, ◌≤◌, arith, eqb, length, take, drop, length-drop, length-take, get_or-take, get_or-drop, rules}
 use Rattle.blocks.specs.Block.{zeros, same}
 use Rattle.blocks.proofs.Zeros.{zero_more, zero_end}
 use Rattle.blocks.proofs.block.is_zero.Statement.{statement}
@@ -38,5 +38,5 @@ returns c =
 pub is-zero-spec : {M : Type 1} → statement M
 is-zero-spec =
     tie.close
-    (tie.spec invariant-loop decreases-loop loop-holds (λ c. search needs) (λ c. search needs) (λ c. search needs) (λ c. search needs) loop-again
+    (tie.spec invariant-loop decreases-loop loop-holds (λ c. search rules) (λ c. search rules) (λ c. search rules) (λ c. search rules) loop-again
     returns)

@@ -1,5 +1,5 @@
 -- Each turn writes one byte; what is behind stays (Loop).
-use Rattle.fips197.proofs.Kit.{◌≡◌, refl, ◌∙◌, ◌-◌, ◌≤◌, arith, length, length-set, needs}
+use Rattle.fips197.proofs.Kit.{◌≡◌, refl, ◌∙◌, ◌-◌, ◌≤◌, arith, length, length-set, rules}
 use Rattle.blocks.proofs.Loop.{part, part_front, part_turn}
 use Rattle.blocks.proofs.block.put.Statement.{statement}
 use Rattle.blocks.proofs.block.put.Tie as tie
@@ -18,7 +18,7 @@ loop-again c =
     let l = c.before in
     let d = l.before in
     let block = d.args.t2 in
-    let h : length block ≡ 16 = search needs in
+    let h : length block ≡ 16 = search rules in
     let i = l.loop.i in (
       omega arith,
       length-set l.loop.out i _ ∙ l.loop.invariant.1,
@@ -29,11 +29,11 @@ returns : tie.Need-returns invariant-loop decreases-loop
 returns c =
     let l = c.before in
     let block = l.before.args.t2 in
-    let h : length block ≡ 16 = search needs in
+    let h : length block ≡ 16 = search rules in
     part_front 16 l.loop.i block _ l.loop.out l.loop.invariant.2 (omega arith) h
 
 pub put_spec : {M : Type 1} → statement M
 put_spec =
     tie.close
-    (tie.spec invariant-loop decreases-loop loop-holds (λ c. search needs) (λ c. search needs) (λ c. search needs) (λ c. search needs)
-    loop-again (λ c. search needs) returns)
+    (tie.spec invariant-loop decreases-loop loop-holds (λ c. search rules) (λ c. search rules) (λ c. search rules) (λ c. search rules)
+    loop-again (λ c. search rules) returns)

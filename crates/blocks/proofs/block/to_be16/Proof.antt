@@ -1,5 +1,5 @@
 -- The bytes of a number below 65,536.
-use Rattle.fips197.proofs.Kit.{◌≡◌, ap, [], ◌∷◌, ℕ, ◌/◌, ◌%◌, arith, needs}
+use Rattle.fips197.proofs.Kit.{◌≡◌, ap, [], ◌∷◌, ℕ, ◌/◌, ◌%◌, arith, rules}
 use Rattle.blocks.specs.Number.{big_endian}
 use Rattle.blocks.proofs.block.to_be16.Statement.{statement}
 use Rattle.blocks.proofs.block.to_be16.Tie as tie
@@ -12,4 +12,4 @@ returns c =
     ap (λ (x : ℕ). x ∷ n % 256 ∷ []) e
 
 pub to-be16-spec : {M : Type 1} → statement M
-to-be16-spec = tie.close (tie.spec (λ c. search needs) (λ c. search needs) returns)
+to-be16-spec = tie.close (tie.spec (λ c. search rules) (λ c. search rules) returns)

@@ -1,5 +1,5 @@
 -- Read, XORed and written back.
-use Rattle.fips197.proofs.Kit.{ap, ◌∙◌, List, ◌++◌, ℕ, ◌+◌, take, drop, needs}
+use Rattle.fips197.proofs.Kit.{ap, ◌∙◌, List, ◌++◌, ℕ, ◌+◌, take, drop, rules}
 use Rattle.blocks.specs.Block.{◌⊕◌}
 use Rattle.blocks.proofs.block.xor_at.Statement.{statement}
 use Rattle.blocks.proofs.block.xor_at.Tie as tie
@@ -15,4 +15,4 @@ returns c =
 pub xor-at-spec : {M : Type 1} → statement M
 xor-at-spec =
     tie.close
-    (tie.spec (λ c κs. search needs) (λ c κs. search needs) (λ c κs. search needs) (λ c. search needs) returns)
+    (tie.spec (λ c κs. search rules) (λ c κs. search rules) (λ c κs. search rules) (λ c. search rules) returns)

@@ -1,5 +1,5 @@
 -- The key made ready gives what the key gives (Laws).
-use Rattle.fips197.proofs.Kit.{◌∙◌, needs}
+use Rattle.fips197.proofs.Kit.{◌∙◌, rules}
 use Rattle.cipher.proofs.Laws.{mac_ready}
 use Rattle.cipher.proofs.cmac.cmac_with.Statement.{statement}
 use Rattle.cipher.proofs.cmac.cmac_with.Tie as tie
@@ -10,4 +10,4 @@ returns c =
     c.mac.ensures ∙ mac_ready d.args.key _ d.args.message.now c.before.prepare.ensures
 
 pub cmac-with-spec : {M : Type 1} → statement M
-cmac-with-spec = tie.close (tie.spec (λ c κs. search needs) (λ c κs. search needs) returns)
+cmac-with-spec = tie.close (tie.spec (λ c κs. search rules) (λ c κs. search rules) returns)

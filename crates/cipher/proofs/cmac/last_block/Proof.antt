@@ -1,5 +1,5 @@
 -- By its length (Chain).
-use Rattle.fips197.proofs.Kit.{◌≡◌, ap, ◌∙◌, List, ℕ, arith, length, take_all, needs}
+use Rattle.fips197.proofs.Kit.{◌≡◌, ap, ◌∙◌, List, ℕ, arith, length, take_all, rules}
 use Rattle.blocks.specs.Block.{◌⊕◌}
 use Rattle.cipher.proofs.Chain.{last-whole, last-padded}
 use Rattle.cipher.proofs.cmac.last_block.Statement.{statement}
@@ -25,4 +25,4 @@ returns-2 c =
 pub last-block-spec : {M : Type 1} → statement M
 last-block-spec =
     tie.close
-    (tie.spec (λ c κs. omega (arith, c.if1.true)) (λ c κs. search needs) returns padded-requires (λ c κs. search needs) returns-2)
+    (tie.spec (λ c κs. omega (arith, c.if1.true)) (λ c κs. search rules) returns padded-requires (λ c κs. search rules) returns-2)

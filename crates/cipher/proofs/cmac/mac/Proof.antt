@@ -1,5 +1,5 @@
 -- The chain over all blocks but the last, and then the last (Chain).
-use Rattle.fips197.proofs.Kit.{◌≡◌, ap, ap₂, ◌∙◌, List, ℕ, ◌-◌, ◌/◌, arith, length, take, drop, take_all, length-take, length-drop, needs}
+use Rattle.fips197.proofs.Kit.{◌≡◌, ap, ap₂, ◌∙◌, List, ℕ, ◌-◌, ◌/◌, arith, length, take, drop, take_all, length-take, length-drop, rules}
 use Rattle.blocks.specs.Block.{◌⊕◌, zeros}
 use Rattle.blocks.specs.Chain.{chain}
 use Rattle.blocks.proofs.Chaining.{chain-block}
@@ -24,7 +24,7 @@ returns c =
     let at = a.last-at.result in
     let e : at - 0 ≡ at = omega arith in
     let n : length (drop at m) ≡ length m - at = length-drop at m in
-    let h : length l.last_block.result ≡ 16 = search needs in
+    let h : length l.last_block.result ≡ 16 = search rules in
     c.absorb2.ensures
     ∙ chain-block f c.before.before.before.absorb.result l.last_block.result h
     ∙ ap₂ (λ (y z : List ℕ). f (y ⊕ z))
@@ -35,5 +35,5 @@ returns c =
 pub mac-spec : {M : Type 1} → statement M
 mac-spec =
     tie.close
-    (tie.spec (λ c κs. search needs) (λ c. search needs) (λ c. search needs) (λ c. search needs) last-block-requires
-    (λ c. search needs) (λ c. search needs) (λ c. search needs) (λ c κs. search needs) (λ c. search needs) (λ c κs. search needs) returns)
+    (tie.spec (λ c κs. search rules) (λ c. search rules) (λ c. search rules) (λ c. search rules) last-block-requires
+    (λ c. search rules) (λ c. search rules) (λ c. search rules) (λ c κs. search rules) (λ c. search rules) (λ c κs. search rules) returns)

@@ -1,5 +1,5 @@
 -- The last block is written where it stands, and the chain goes over the message laid out (Chain).
-use Rattle.fips197.proofs.Kit.{◌≡◌, ◌∙◌, arith, length, length-take, length-drop, needs}
+use Rattle.fips197.proofs.Kit.{◌≡◌, ◌∙◌, arith, length, length-take, length-drop, rules}
 use Rattle.cipher.specs.Aes.{cipher}
 use Rattle.cipher.specs.Cmac.{mac_with}
 use Rattle.cipher.proofs.Chain.{laid_in_place, mac_in_place}
@@ -10,10 +10,10 @@ last-block-requires : tie.Need-last-block-requires
 last-block-requires c κs = simp (length-take, length-drop) (omega (arith, c.before.before.last-at.ensures.0))
 
 subkey1-long : (c : tie.After-k2) → length c.before.before.before.before.args.key.k1 ≡ 16
-subkey1-long c = search needs
+subkey1-long c = search rules
 
 subkey2-long : (c : tie.After-k2) → length c.before.before.before.before.args.key.k2 ≡ 16
-subkey2-long c = search needs
+subkey2-long c = search rules
 
 returns : tie.Need-returns
 unfolding mac_with
@@ -36,6 +36,6 @@ returns c =
 pub mac-in-place-spec : {M : Type 1} → statement M
 mac-in-place-spec =
     tie.close
-    (tie.spec (λ c κs. search needs) (λ c. search needs) (λ c. search needs) (λ c. search needs) last-block-requires
-    (λ c κs. search needs) (λ c. search needs) (λ c. search needs) (λ c. search needs) (λ c. search needs) (λ c κs. search needs)
-    (λ c. search needs) returns)
+    (tie.spec (λ c κs. search rules) (λ c. search rules) (λ c. search rules) (λ c. search rules) last-block-requires
+    (λ c κs. search rules) (λ c. search rules) (λ c. search rules) (λ c. search rules) (λ c. search rules) (λ c κs. search rules)
+    (λ c. search rules) returns)

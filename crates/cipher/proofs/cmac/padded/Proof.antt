@@ -1,5 +1,5 @@
 -- Each turn reads one byte of what is left; then the mark, and the zeros that were there (Chain).
-use Rattle.fips197.proofs.Kit.{◌≡◌, refl, sym, ap, ◌∙◌, ℕ, ◌+◌, ◌-◌, ◌≤◌, ◌<◌, arith, length, get_or, needs}
+use Rattle.fips197.proofs.Kit.{◌≡◌, refl, sym, ap, ◌∙◌, ℕ, ◌+◌, ◌-◌, ◌≤◌, ◌<◌, arith, length, get_or, rules}
 use Rattle.blocks.proofs.Loop.{part, part_turn}
 use Rattle.cipher.proofs.Chain.{padded-length, padded-at, padded_mark, padded_end}
 use Rattle.cipher.specs.Cmac.{padded}
@@ -43,5 +43,5 @@ returns c =
 pub padded-spec : {M : Type 1} → statement M
 padded-spec =
     tie.close
-    (tie.spec invariant-loop decreases-loop loop-holds (λ c. search needs) (λ c. search needs) (λ c. search needs) (λ c. search needs) loop-again
-    (λ c. search needs) returns)
+    (tie.spec invariant-loop decreases-loop loop-holds (λ c. search rules) (λ c. search rules) (λ c. search rules) (λ c. search rules) loop-again
+    (λ c. search rules) returns)

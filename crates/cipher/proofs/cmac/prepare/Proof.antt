@@ -1,5 +1,5 @@
 -- The subkeys are doublings of the enciphered zero block.
-use Rattle.fips197.proofs.Kit.{ap, ◌∙◌, needs}
+use Rattle.fips197.proofs.Kit.{ap, ◌∙◌, rules}
 use Rattle.cipher.specs.Cmac.{subkey1, subkey2, ready}
 use Rattle.cipher.proofs.Laws.{encipher_is}
 use Rattle.blocks.specs.Double.{double}
@@ -20,4 +20,4 @@ returns c =
 pub prepare-spec : {M : Type 1} → statement M
 prepare-spec =
     tie.close
-    (tie.spec (λ c κs. search needs) (λ c κs. search needs) (λ c κs. search needs) (λ c κs. search needs) returns)
+    (tie.spec (λ c κs. search rules) (λ c κs. search rules) (λ c κs. search rules) (λ c κs. search rules) returns)

@@ -1,6 +1,6 @@
 -- Each turn deciphers one block in its place; those before it stay, and those behind it are still as they were (Slots). The schedule is
 -- any whose deciphering schedule the words are.
-use Rattle.fips197.proofs.Kit.{◌≡◌, refl, List, ℕ, ◌-◌, ◌≤◌, arith, length, needs}
+use Rattle.fips197.proofs.Kit.{◌≡◌, refl, List, ℕ, ◌-◌, ◌≤◌, arith, length, rules}
 use Rattle.tables.specs.RoundTables.{DecipherWords}
 use Rattle.blocks.specs.Block.{slot}
 use Rattle.cipher.specs.Aes.{inv_cipher}
@@ -22,7 +22,7 @@ loop-again c =
     let b = c.before.before.before.before.before.before.before.before in
     let l = b.before.before.before in
     let r = c.before.before.before.inv-cipher in
-    let h : length r.result ≡ 16 = search needs in (
+    let h : length r.result ≡ 16 = search rules in (
       omega arith,
       omega arith,
       λ w hw g.
@@ -35,12 +35,12 @@ returns c =
     let l = c.before in
     let words = l.before.decipher-words in
     let w = l.before.before.before.before.before.args.w in
-    let h : length w ≡ 176 = search needs in
+    let h : length w ≡ 176 = search rules in
     front_done _ _ l.loop.k _ _ (l.loop.invariant.2 w h words.ensures) (omega arith)
 
 pub decipher-blocks-spec : {M : Type 1} → statement M
 decipher-blocks-spec =
     tie.close
-    (tie.spec invariant-loop decreases-loop (λ c κs. search needs) (λ c κs. search needs) (λ c κs. search needs) loop-holds (λ c. search needs)
-    (λ c κs. search needs) (λ c κs. search needs) (λ c κs. search needs) (λ c. search needs) (λ c. search needs) loop-again
-    (λ c. search needs) returns)
+    (tie.spec invariant-loop decreases-loop (λ c κs. search rules) (λ c κs. search rules) (λ c κs. search rules) loop-holds (λ c. search rules)
+    (λ c κs. search rules) (λ c κs. search rules) (λ c κs. search rules) (λ c. search rules) (λ c. search rules) loop-again
+    (λ c. search rules) returns)

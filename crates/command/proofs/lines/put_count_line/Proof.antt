@@ -1,5 +1,5 @@
 -- Two texts, one behind the other, in room for 20 digits (Putting, Lengths).
-use Rattle.fips197.proofs.Kit.{now, needs}
+use Rattle.fips197.proofs.Kit.{now, rules}
 use Rattle.printing.specs.Text.{ascii, labelled}
 use Rattle.printing.proofs.Putting.{room_for, put_short, two₁, two₂, two}
 use Rattle.command.specs.Said.{count_line}
@@ -28,4 +28,4 @@ returns c =
 pub put-count-line-spec : {M : Type 1} → statement M
 put-count-line-spec =
     tie.close
-    (tie.spec (λ c. search needs) put-labelled-requires (λ c. search needs) put-requires (λ c. search needs) returns)
+    (tie.spec (λ c. search rules) put-labelled-requires (λ c. search rules) put-requires (λ c. search rules) returns)

@@ -1,5 +1,5 @@
 -- Three texts, one behind the other (Putting); the numbers are the family's.
-use Rattle.fips197.proofs.Kit.{ap, now, needs}
+use Rattle.fips197.proofs.Kit.{ap, now, rules}
 use Rattle.sizes.specs.Sizes.{family_of}
 use Rattle.printing.specs.Text.{ascii, labelled}
 use Rattle.printing.proofs.Putting.{put_as, room_as, three₁, three₂, three₃, three}
@@ -40,5 +40,5 @@ returns c =
 pub put-family-spec : {M : Type 1} → statement M
 put-family-spec =
     tie.close
-    (tie.spec (λ c. search needs) (λ c κs. search needs) put-labelled-requires (λ c. search needs) (λ c κs. search needs)
-    put-labelled-requires-2 (λ c. search needs) (λ c κs. search needs) put-labelled-requires-3 (λ c. search needs) returns)
+    (tie.spec (λ c. search rules) (λ c κs. search rules) put-labelled-requires (λ c. search rules) (λ c κs. search rules)
+    put-labelled-requires-2 (λ c. search rules) (λ c κs. search rules) put-labelled-requires-3 (λ c. search rules) returns)

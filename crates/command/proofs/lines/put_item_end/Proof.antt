@@ -1,5 +1,5 @@
 -- Each end is put where its test holds (Lengths).
-use Rattle.fips197.proofs.Kit.{needs}
+use Rattle.fips197.proofs.Kit.{rules}
 use Rattle.printing.specs.Text.{ascii}
 use Rattle.printing.proofs.Putting.{put_as, room_as}
 use Rattle.command.proofs.Lengths.{end_vacant, end_filled}
@@ -33,5 +33,5 @@ returns-2 c =
 pub put-item-end-spec : {M : Type 1} → statement M
 put-item-end-spec =
     tie.close
-    (tie.spec (λ c. search needs) put-requires (λ c. search needs) returns (λ c. search needs) put-requires-2 (λ c. search needs)
+    (tie.spec (λ c. search rules) put-requires (λ c. search rules) returns (λ c. search rules) put-requires-2 (λ c. search rules)
     returns-2)

@@ -1,5 +1,5 @@
 -- Three texts, one behind the other, in room for 20 digits each (Putting, Lengths).
-use Rattle.fips197.proofs.Kit.{now, needs}
+use Rattle.fips197.proofs.Kit.{now, rules}
 use Rattle.printing.specs.Text.{ascii, labelled}
 use Rattle.printing.proofs.Putting.{room_for, put_short, three₁, three₂, three₃, three}
 use Rattle.command.specs.Said.{message_line}
@@ -34,5 +34,5 @@ returns c =
 pub put-message-line-spec : {M : Type 1} → statement M
 put-message-line-spec =
     tie.close
-    (tie.spec (λ c. search needs) put-labelled-requires (λ c. search needs) put-labelled-requires-2 (λ c. search needs)
-    put-requires (λ c. search needs) returns)
+    (tie.spec (λ c. search rules) put-labelled-requires (λ c. search rules) put-labelled-requires-2 (λ c. search rules)
+    put-requires (λ c. search rules) returns)

@@ -1,5 +1,5 @@
 -- Four texts, one behind the other, in room for 20 digits a number (Putting, Lengths).
-use Rattle.fips197.proofs.Kit.{ap, now, needs}
+use Rattle.fips197.proofs.Kit.{ap, now, rules}
 use Rattle.printing.specs.Text.{ascii, labelled}
 use Rattle.printing.proofs.Putting.{room_for, put_short, put_as, room_as, four₁, four₂, four₃, four₄, four}
 use Rattle.command.specs.Said.{family_part, new_size, size_line}
@@ -42,5 +42,5 @@ returns c =
 pub put-size-line-spec : {M : Type 1} → statement M
 put-size-line-spec =
     tie.close
-    (tie.spec (λ c. search needs) put-labelled-requires put-family-requires (λ c. search needs) (λ c κs. search needs)
-    put-labelled-requires-2 (λ c. search needs) put-requires (λ c. search needs) returns)
+    (tie.spec (λ c. search rules) put-labelled-requires put-family-requires (λ c. search rules) (λ c κs. search rules)
+    put-labelled-requires-2 (λ c. search rules) put-requires (λ c. search rules) returns)

@@ -1,5 +1,5 @@
 -- Three texts, one behind the other, in room for 20 digits (Putting, Lengths).
-use Rattle.fips197.proofs.Kit.{now, needs}
+use Rattle.fips197.proofs.Kit.{now, rules}
 use Rattle.printing.specs.Text.{ascii, labelled}
 use Rattle.printing.proofs.Putting.{put_front, three₁, three₂, three₃, three}
 use Rattle.command.specs.Said.{temporary_name}
@@ -35,5 +35,5 @@ returns c =
 pub put-temporary-spec : {M : Type 1} → statement M
 put-temporary-spec =
     tie.close
-    (tie.spec put-requires (λ c. search needs) put-labelled-requires (λ c. search needs) put-requires-2 (λ c. search needs)
+    (tie.spec put-requires (λ c. search rules) put-labelled-requires (λ c. search rules) put-requires-2 (λ c. search rules)
     returns)

@@ -1,5 +1,5 @@
 -- Each test settles it (Reading).
-use Rattle.fips197.proofs.Kit.{needs}
+use Rattle.fips197.proofs.Kit.{rules}
 use Rattle.command.proofs.Reading.{low, high, between}
 use Rattle.command.proofs.numbers.fits.Statement.{statement}
 use Rattle.command.proofs.numbers.fits.Tie as tie
@@ -17,4 +17,4 @@ returns-3 c =
     between c.before.before.args.v c.before.before.args.b c.before.if1.false c.if2.false
 
 pub fits-spec : {M : Type 1} → statement M
-fits-spec = tie.close (tie.spec returns returns-2 (λ c. search needs) (λ c. search needs) returns-3)
+fits-spec = tie.close (tie.spec returns returns-2 (λ c. search rules) (λ c. search rules) returns-3)

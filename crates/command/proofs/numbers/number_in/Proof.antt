@@ -1,5 +1,5 @@
 -- What is read and what is left (Reading).
-use Rattle.fips197.proofs.Kit.{◌-◌, length, not-true, not-false, needs}
+use Rattle.fips197.proofs.Kit.{◌-◌, length, not-true, not-false, rules}
 use Rattle.command.proofs.Reading.{Reading, reading_none, reading_more, reading_stops, reading_done, digit_low, digit_below}
 use Rattle.command.proofs.numbers.number_in.Statement.{statement}
 use Rattle.command.proofs.numbers.number_in.Tie as tie
@@ -14,13 +14,13 @@ loop-holds : tie.Need-loop-init invariant-loop decreases-loop
 loop-holds c = reading_none _
 
 returns : tie.Need-returns invariant-loop decreases-loop
-returns c = search (needs, reading_stops, not-true)
+returns c = search (rules, reading_stops, not-true)
 
 with-digit-requires : tie.Need-with-digit-requires invariant-loop decreases-loop
-with-digit-requires c κs = (search (needs, digit_low, not-false), search (needs, digit_below, not-false))
+with-digit-requires c κs = (search (rules, digit_low, not-false), search (rules, digit_below, not-false))
 
 loop-again : tie.Need-loop-preserved invariant-loop decreases-loop
-loop-again c = search (needs, reading_more, not-false)
+loop-again c = search (rules, reading_more, not-false)
 
 returns-2 : tie.Need-returns-2 invariant-loop decreases-loop
 returns-2 c = reading_done _ _ _ c.before.loop.invariant c.loop-test.false
@@ -28,5 +28,5 @@ returns-2 c = reading_done _ _ _ c.before.loop.invariant c.loop-test.false
 pub number-in-spec : {M : Type 1} → statement M
 number-in-spec =
     tie.close
-    (tie.spec invariant-loop decreases-loop loop-holds (λ c. search needs) (λ c κs. search needs) returns with-digit-requires
-    (λ c. search needs) (λ c. search needs) loop-again returns-2)
+    (tie.spec invariant-loop decreases-loop loop-holds (λ c. search rules) (λ c κs. search rules) returns with-digit-requires
+    (λ c. search rules) (λ c. search rules) loop-again returns-2)

@@ -1,5 +1,5 @@
 -- What Append says of the card, at its place (Placing).
-use Rattle.fips197.proofs.Kit.{arith, needs}
+use Rattle.fips197.proofs.Kit.{arith, rules}
 use Rattle.command.proofs.Placing.{placed-none, said-so, size_refused, size_more, size-inside, size_small}
 use Rattle.command.proofs.packs.add_card.Statement.{statement}
 use Rattle.command.proofs.packs.add_card.Tie as tie
@@ -8,7 +8,7 @@ returns : tie.Need-returns
 returns c =
     let d = c.before.before.before.before.before.before.before.before.before in
     let a = c.before.before.before.before.before.append in
-    (said-so d.args.file.now d.args.n d.args.card.now d.args.k _ a.ensures.0 _ c.placed.ensures, (size_refused d.args.file.now d.args.n d.args.card.now d.args.k _ a.ensures.0 c.before.if1.true, (a.ensures.1, search needs)))
+    (said-so d.args.file.now d.args.n d.args.card.now d.args.k _ a.ensures.0 _ c.placed.ensures, (size_refused d.args.file.now d.args.n d.args.card.now d.args.k _ a.ensures.0 c.before.if1.true, (a.ensures.1, search rules)))
 
 add-t10 : tie.Need-overflow-add-t10
 add-t10 c =
@@ -32,5 +32,5 @@ returns-2 c =
 pub add-card-spec : {M : Type 1} → statement M
 add-card-spec =
     tie.close
-    (tie.spec (λ c κs. search needs) (λ c κs. search needs) (λ c. search needs) returns add-t10 add-t12 (λ c. search needs)
+    (tie.spec (λ c κs. search rules) (λ c κs. search rules) (λ c. search rules) returns add-t10 add-t12 (λ c. search rules)
     returns-2)

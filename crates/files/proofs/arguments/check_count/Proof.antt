@@ -1,5 +1,5 @@
 -- As `unless` has it.
-use Rattle.fips197.proofs.Kit.{ap, ◌∙◌, Bool, ℕ, needs}
+use Rattle.fips197.proofs.Kit.{ap, ◌∙◌, Bool, ℕ, rules}
 use Rattle.files.specs.Refusals.{unless}
 use Rattle.incidence.specs.Count.{inside}
 use Rattle.files.specs.Arguments.{refuse4}
@@ -12,4 +12,4 @@ returns c = c.unless.ensures ∙ ap (λ (t : Bool). unless t 4 0)
     (c.before.inside.ensures ∙ ap (λ (m : ℕ). inside m c.before.before.before.args.n) c.before.before.items.ensures)
 
 pub check-count-spec : {M : Type 1} → statement M
-check-count-spec = tie.close (tie.spec (λ c κs. search needs) (λ c κs. search needs) (λ c κs. search needs) returns)
+check-count-spec = tie.close (tie.spec (λ c κs. search rules) (λ c κs. search rules) (λ c κs. search rules) returns)

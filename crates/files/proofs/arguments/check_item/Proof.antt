@@ -1,5 +1,5 @@
 -- As `unless` has it.
-use Rattle.fips197.proofs.Kit.{needs}
+use Rattle.fips197.proofs.Kit.{rules}
 use Rattle.files.specs.Arguments.{refuse9}
 use Rattle.files.proofs.arguments.check_item.Statement.{statement}
 use Rattle.files.proofs.arguments.check_item.Tie as tie
@@ -9,4 +9,4 @@ unfolding refuse9
 returns c = c.unless.ensures
 
 pub check-item-spec : {M : Type 1} → statement M
-check-item-spec = tie.close (tie.spec (λ c κs. search needs) returns)
+check-item-spec = tie.close (tie.spec (λ c κs. search rules) returns)

@@ -1,5 +1,5 @@
 -- What the file begins with, then its length (Passing).
-use Rattle.fips197.proofs.Kit.{sym, ◌∙◌, needs}
+use Rattle.fips197.proofs.Kit.{sym, ◌∙◌, rules}
 use Rattle.files.specs.Message.{message_letters, newest_message, items_at, refuse3}
 use Rattle.files.proofs.Passing.{unless-and, unless_not}
 use Rattle.files.proofs.message.check_header.Statement.{statement}
@@ -15,4 +15,4 @@ returns-2 c = unless_not _ _ 3 0 (sym c.before.begins-as.ensures ∙ c.if1.false
 
 pub check-header-spec : {M : Type 1} → statement M
 check-header-spec =
-    tie.close (tie.spec (λ c. search needs) (λ c κs. search needs) (λ c κs. search needs) returns returns-2)
+    tie.close (tie.spec (λ c. search rules) (λ c κs. search rules) (λ c κs. search rules) returns returns-2)

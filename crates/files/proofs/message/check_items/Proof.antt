@@ -1,5 +1,5 @@
 -- Behind the items passed, which all fit (Messages).
-use Rattle.fips197.proofs.Kit.{◌≡◌, sym, ap, ◌∙◌, ◌-◌, ◌≤◌, arith, length, needs}
+use Rattle.fips197.proofs.Kit.{◌≡◌, sym, ap, ◌∙◌, ◌-◌, ◌≤◌, arith, length, rules}
 use Rattle.files.specs.Message.{behind, refuse_items}
 use Rattle.files.proofs.Messages.{headed, fits-so, behind_more, items_more, items_stop, items-whole, items-over}
 use Rattle.files.specs.Refusals.{none, first}
@@ -28,7 +28,7 @@ next-requires c κs =
     let l = c.before.before.before.before in
     let s = l.before.before.before.before.args.s.now in
     let f = fits-so s l.loop.c.at (sym c.before.fits2.ensures ∙ c.if2.true) in
-    (f.head, omega (arith, l.before.before.item_count.ensures.1), search needs)
+    (f.head, omega (arith, l.before.before.item_count.ensures.1), search rules)
 
 loop-again : tie.Need-loop-preserved invariant-loop decreases-loop
 loop-again c =
@@ -67,5 +67,5 @@ returns-3 c =
 pub check-items-spec : {M : Type 1} → statement M
 check-items-spec =
     tie.close
-    (tie.spec invariant-loop decreases-loop item-count-requires (λ c κs. omega (arith, headed _ c.before.before.requires)) loop-holds (λ c κs. search needs) next-requires
-    (λ c. search needs) loop-again (λ c. search needs) returns returns-2 (λ c. search needs) returns-3)
+    (tie.spec invariant-loop decreases-loop item-count-requires (λ c κs. omega (arith, headed _ c.before.before.requires)) loop-holds (λ c κs. search rules) next-requires
+    (λ c. search rules) loop-again (λ c. search rules) returns returns-2 (λ c. search rules) returns-3)

@@ -1,5 +1,5 @@
 -- The item that Fetch does not refuse, or the empty part at the front (Messages).
-use Rattle.fips197.proofs.Kit.{refl, arith, needs}
+use Rattle.fips197.proofs.Kit.{refl, arith, rules}
 use Rattle.files.specs.Message.{number16}
 use Rattle.files.proofs.Messages.{fetched, unfetched, fetchable}
 use Rattle.files.proofs.message.fetch.Statement.{statement}
@@ -31,10 +31,10 @@ returns-2 c =
     let d = q.before.before in
     fetched d.args.s _ d.args.j q.fetch-refusal.result q.fetch-refusal.ensures c.before.before.before.if1.false
     c.before.before.seek.result c.before.number16.result c.before.before.seek.ensures.0 c.before.number16.ensures.0
-    (search needs) (search needs) (search needs)
+    (search rules) (search rules) (search rules)
 
 pub fetch_spec : {M : Type 1} → statement M
 fetch_spec =
     tie.close
-    (tie.spec (λ c κs. search needs) (λ c. search needs) returns sub-seek seek-requires (λ c. search needs) (λ c κs. search needs)
-    (λ c. search needs) (λ c. search needs) (λ c. search needs) part-result-end returns-2)
+    (tie.spec (λ c κs. search rules) (λ c. search rules) returns sub-seek seek-requires (λ c. search rules) (λ c κs. search rules)
+    (λ c. search rules) (λ c. search rules) (λ c. search rules) part-result-end returns-2)

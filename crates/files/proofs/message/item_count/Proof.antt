@@ -1,5 +1,5 @@
 -- The number behind letters, version and number.
-use Rattle.fips197.proofs.Kit.{◌≡◌, ap, ◌∙◌, arith, needs}
+use Rattle.fips197.proofs.Kit.{◌≡◌, ap, ◌∙◌, arith, rules}
 use Rattle.stamp.specs.Front.{front_size, version_of}
 use Rattle.stamp.proofs.Fronts.{front_low}
 use Rattle.files.specs.Message.{number16, items_at, item_count}
@@ -25,4 +25,4 @@ returns c =
     (c.number16.ensures.0 ∙ ap (number16 s) (place c.before), c.number16.ensures.1)
 
 pub item-count-spec : {M : Type 1} → statement M
-item-count-spec = tie.close (tie.spec version-of-requires (λ c κs. search needs) number16-requires returns)
+item-count-spec = tie.close (tie.spec version-of-requires (λ c κs. search rules) number16-requires returns)

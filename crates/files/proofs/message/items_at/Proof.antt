@@ -1,5 +1,5 @@
 -- Two bytes behind letters, version and number.
-use Rattle.fips197.proofs.Kit.{arith, needs}
+use Rattle.fips197.proofs.Kit.{arith, rules}
 use Rattle.files.specs.Message.{items_at}
 use Rattle.files.proofs.message.items_at.Statement.{statement}
 use Rattle.files.proofs.message.items_at.Tie as tie
@@ -9,4 +9,4 @@ unfolding items_at
 returns c = (omega (arith, c.front-size.ensures.0), omega (arith, c.front-size.ensures.2))
 
 pub items-at-spec : {M : Type 1} → statement M
-items-at-spec = tie.close (tie.spec (λ c κs. search needs) (λ c. search needs) (λ c. omega (arith, c.front-size.ensures.2)) returns)
+items-at-spec = tie.close (tie.spec (λ c κs. search rules) (λ c. search rules) (λ c. omega (arith, c.front-size.ensures.2)) returns)

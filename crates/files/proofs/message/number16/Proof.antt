@@ -1,5 +1,5 @@
 -- The two bytes at the place (Fronts).
-use Rattle.fips197.proofs.Kit.{ap, ◌∙◌, arith, needs}
+use Rattle.fips197.proofs.Kit.{ap, ◌∙◌, arith, rules}
 use Rattle.files.specs.Message.{number16}
 use Rattle.stamp.proofs.Fronts.{two_at}
 use Rattle.blocks.specs.Number.{number}
@@ -10,9 +10,9 @@ returns : tie.Need-returns
 unfolding number16
 returns c =
     let d = c.before.before.before.before in
-    (c.from-be16.ensures ∙ ap number (two_at d.args.s.now d.args.at (omega arith)), search needs)
+    (c.from-be16.ensures ∙ ap number (two_at d.args.s.now d.args.at (omega arith)), search rules)
 
 pub number16-spec : {M : Type 1} → statement M
 number16-spec =
     tie.close
-    (tie.spec (λ c. search needs) (λ c. search needs) (λ c. search needs) (λ c κs. search needs) (λ c. search needs) returns)
+    (tie.spec (λ c. search rules) (λ c. search rules) (λ c. search rules) (λ c κs. search rules) (λ c. search rules) returns)

@@ -1,5 +1,5 @@
 -- Behind the items passed, which all fit (Messages).
-use Rattle.fips197.proofs.Kit.{◌≡◌, sym, ap, ◌∙◌, ℕ, ◌+◌, ◌-◌, ◌≤◌, arith, length, subst, needs}
+use Rattle.fips197.proofs.Kit.{◌≡◌, sym, ap, ◌∙◌, ℕ, ◌+◌, ◌-◌, ◌≤◌, arith, length, subst, rules}
 use Rattle.files.specs.Message.{number16, behind}
 use Rattle.files.proofs.Messages.{behind-low, behind_more, item-fits}
 use Rattle.files.specs.Refusals.{first}
@@ -48,4 +48,4 @@ returns c =
 pub seek-spec : {M : Type 1} → statement M
 seek-spec =
     tie.close
-    (tie.spec invariant-loop decreases-loop (λ c κs. search needs) loop-holds next-requires (λ c. search needs) loop-again returns)
+    (tie.spec invariant-loop decreases-loop (λ c κs. search rules) loop-holds next-requires (λ c. search rules) loop-again returns)

@@ -1,5 +1,5 @@
 -- What the file begins with, then the rest (Passing).
-use Rattle.fips197.proofs.Kit.{◌≡◌, sym, ap, ◌∙◌, Bool, ℕ, ◌+◌, arith, needs}
+use Rattle.fips197.proofs.Kit.{◌≡◌, sym, ap, ◌∙◌, Bool, ℕ, ◌+◌, arith, rules}
 use Rattle.stamp.specs.Front.{front_size, version_of, begins_as}
 use Rattle.stamp.proofs.Fronts.{begins_as_so}
 use Rattle.files.specs.Refusals.{unless}
@@ -34,4 +34,4 @@ returns-2 c = unless_not _ _ 6 0 (sym (begins-as c.before) ∙ c.if1.false)
 pub check-spec : {M : Type 1} → statement M
 check-spec =
     tie.close
-    (tie.spec (λ c. search needs) (λ c κs. search needs) fits-requires (λ c κs. search needs) returns returns-2)
+    (tie.spec (λ c. search rules) (λ c κs. search rules) fits-requires (λ c κs. search rules) returns returns-2)

@@ -1,5 +1,5 @@
 -- The last 16 bytes against CMAC of those before (TagFiles).
-use Rattle.fips197.proofs.Kit.{refl, ◌∙◌, ◌≤◌, arith, length, needs}
+use Rattle.fips197.proofs.Kit.{refl, ◌∙◌, ◌≤◌, arith, length, rules}
 use Rattle.files.proofs.Accepted.{formed}
 use Rattle.files.proofs.TagFiles.{mac_is}
 use Rattle.files.proofs.tagfile.check_mac.Statement.{statement}
@@ -18,5 +18,5 @@ returns c =
 pub check-mac-spec : {M : Type 1} → statement M
 check-mac-spec =
     tie.close
-    (tie.spec (λ c. omega (arith, long c)) (λ c. omega (arith, long c)) (λ c. search needs) (λ c. omega (arith, long c))
-    (λ c κs. search needs) (λ c κs. omega (arith, long c.before.before)) (λ c κs. search needs) (λ c κs. search needs) returns)
+    (tie.spec (λ c. omega (arith, long c)) (λ c. omega (arith, long c)) (λ c. search rules) (λ c. omega (arith, long c))
+    (λ c κs. search rules) (λ c κs. omega (arith, long c.before.before)) (λ c κs. search rules) (λ c κs. search rules) returns)

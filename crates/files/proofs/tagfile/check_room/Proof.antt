@@ -1,5 +1,5 @@
 -- A file that 6 does not refuse has the length of its size code.
-use Rattle.fips197.proofs.Kit.{ap, ◌∙◌, ℕ, needs}
+use Rattle.fips197.proofs.Kit.{ap, ◌∙◌, ℕ, rules}
 use Rattle.files.specs.Arguments.{refuse7}
 use Rattle.files.proofs.Accepted.{formed}
 use Rattle.files.proofs.tagfile.check_room.Statement.{statement}
@@ -11,4 +11,4 @@ returns c =
     c.check-room.ensures ∙ ap (λ (n : ℕ). refuse7 n d.args.room) (formed _ d.requires).size
 
 pub check-room-spec : {M : Type 1} → statement M
-check-room-spec = tie.close (tie.spec (λ c κs. search needs) returns)
+check-room-spec = tie.close (tie.spec (λ c κs. search rules) returns)

@@ -1,5 +1,5 @@
 -- Each test settles it (TagFiles).
-use Rattle.fips197.proofs.Kit.{needs}
+use Rattle.fips197.proofs.Kit.{rules}
 use Rattle.files.proofs.TagFiles.{fits-known, fits-none, fits_unknown}
 use Rattle.files.proofs.tagfile.count_fits.Statement.{statement}
 use Rattle.files.proofs.tagfile.count_fits.Tie as tie
@@ -20,4 +20,4 @@ returns-3 c =
     fits_unknown d.args.code d.args.n _ c.before.known.ensures c.if1.false
 
 pub count-fits-spec : {M : Type 1} → statement M
-count-fits-spec = tie.close (tie.spec (λ c κs. search needs) (λ c κs. search needs) returns returns-2 returns-3)
+count-fits-spec = tie.close (tie.spec (λ c κs. search rules) (λ c κs. search rules) returns returns-2 returns-3)

@@ -1,5 +1,5 @@
 -- Both tests, or the first alone (TagFiles).
-use Rattle.fips197.proofs.Kit.{sym, ap, ◌∙◌, eqb, length, needs}
+use Rattle.fips197.proofs.Kit.{sym, ap, ◌∙◌, eqb, length, rules}
 use Rattle.files.specs.declared.tagfile.Head.{Head}
 use Rattle.files.specs.TagFile.{head_of, count_fits, file_size}
 use Rattle.files.proofs.TagFiles.{both_left, both_right}
@@ -22,4 +22,4 @@ returns-2 c =
     both_left _ _ _ (sym (t.count-fits.ensures ∙ ap (λ (x : Head). count_fits x.code x.count) t.before.head_of.ensures.0)) c.if1.false
 
 pub fits-spec : {M : Type 1} → statement M
-fits-spec = tie.close (tie.spec (λ c κs. search needs) (λ c κs. search needs) (λ c κs. search needs) returns returns-2)
+fits-spec = tie.close (tie.spec (λ c κs. search rules) (λ c κs. search rules) (λ c κs. search rules) returns returns-2)

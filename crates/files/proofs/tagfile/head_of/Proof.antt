@@ -1,5 +1,5 @@
 -- The stamp, and the two numbers behind it.
-use Rattle.fips197.proofs.Kit.{◌≡◌, ap, ◌∙◌, ℕ, ◌+◌, arith, get_or, needs}
+use Rattle.fips197.proofs.Kit.{◌≡◌, ap, ◌∙◌, ℕ, ◌+◌, arith, get_or, rules}
 use Rattle.stamp.specs.declared.Stamp.{Stamp}
 use Rattle.stamp.specs.Front.{front_size, version_of, stamp_of}
 use Rattle.files.specs.Message.{number16}
@@ -44,5 +44,5 @@ returns c =
 pub head-of-spec : {M : Type 1} → statement M
 head-of-spec =
     tie.close
-    (tie.spec stamp-of-requires (λ c κs. search needs) shared-slice-read-wide (λ c κs. search needs) add-number16 number16-requires
+    (tie.spec stamp-of-requires (λ c κs. search rules) shared-slice-read-wide (λ c κs. search rules) add-number16 number16-requires
     returns)

@@ -1,5 +1,5 @@
 -- The stamp, then size code and count behind it (TagFiles).
-use Rattle.fips197.proofs.Kit.{ap, ◌∙◌, ◌∷◌, ◌++◌, ℕ, ◌+◌, arith, take, drop, needs}
+use Rattle.fips197.proofs.Kit.{ap, ◌∙◌, ◌∷◌, ◌++◌, ℕ, ◌+◌, arith, take, drop, rules}
 use Rattle.blocks.specs.Number.{big_endian}
 use Rattle.files.specs.TagFile.{tag_letters, tags_at}
 use Rattle.files.proofs.TagFiles.{front_put, header_put}
@@ -33,5 +33,5 @@ returns c =
 pub put-header-spec : {M : Type 1} → statement M
 put-header-spec =
     tie.close
-    (tie.spec put-front-requires (λ c κs. search needs) (λ c. search needs) (λ c. search needs) put-size-requires (λ c. search needs)
+    (tie.spec put-front-requires (λ c κs. search rules) (λ c. search rules) (λ c. search rules) put-size-requires (λ c. search rules)
     returns)

@@ -1,5 +1,5 @@
 -- Three stores, the count as to_be16 gives it.
-use Rattle.fips197.proofs.Kit.{◌≡◌, ◌∙◌, [], ◌∷◌, ◌++◌, append_assoc, suc, ◌+◌, add-one, arith, get_or, set, take, drop, length-set, sets-eq, needs}
+use Rattle.fips197.proofs.Kit.{◌≡◌, ◌∙◌, [], ◌∷◌, ◌++◌, append_assoc, suc, ◌+◌, add-one, arith, get_or, set, take, drop, length-set, sets-eq, rules}
 use Rattle.blocks.specs.Number.{big_endian}
 use Rattle.files.proofs.tagfile.put_size.Statement.{statement}
 use Rattle.files.proofs.tagfile.put_size.Tie as tie
@@ -22,6 +22,6 @@ returns c =
 pub put-size-spec : {M : Type 1} → statement M
 put-size-spec =
     tie.close
-    (tie.spec (λ c κs. search needs) (λ c. search needs) (λ c. search needs) (λ c. search needs)
-    (λ c. simp length-set (omega arith)) (λ c. search needs) (λ c. search needs) (λ c. simp length-set (omega arith))
-    (λ c. search needs) returns)
+    (tie.spec (λ c κs. search rules) (λ c. search rules) (λ c. search rules) (λ c. search rules)
+    (λ c. simp length-set (omega arith)) (λ c. search rules) (λ c. search rules) (λ c. simp length-set (omega arith))
+    (λ c. search rules) returns)

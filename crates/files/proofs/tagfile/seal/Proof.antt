@@ -1,5 +1,5 @@
 -- The part behind the first n bytes comes back with their MAC in front.
-use Rattle.fips197.proofs.Kit.{◌≡◌, ap, ◌∙◌, List, ◌++◌, ℕ, ◌+◌, ◌-◌, arith, take, drop, needs}
+use Rattle.fips197.proofs.Kit.{◌≡◌, ap, ◌∙◌, List, ◌++◌, ℕ, ◌+◌, ◌-◌, arith, take, drop, rules}
 use Rattle.cipher.specs.Cmac.{cmac}
 use Rattle.blocks.proofs.Loop.{part_back}
 use Rattle.files.proofs.tagfile.seal.Statement.{statement}
@@ -18,5 +18,5 @@ returns c =
 pub seal-spec : {M : Type 1} → statement M
 seal-spec =
     tie.close
-    (tie.spec (λ c. search needs) (λ c. search needs) (λ c. search needs) (λ c κs. search needs) (λ c. search needs)
-    (λ c. search needs) (λ c. search needs) (λ c κs. search needs) (λ c. search needs) returns)
+    (tie.spec (λ c. search rules) (λ c. search rules) (λ c. search rules) (λ c κs. search rules) (λ c. search rules)
+    (λ c. search rules) (λ c. search rules) (λ c κs. search rules) (λ c. search rules) returns)

@@ -1,5 +1,5 @@
 -- From behind the head to the MAC.
-use Rattle.fips197.proofs.Kit.{◌≡◌, ap, ap₂, ◌∙◌, ℕ, ◌+◌, ◌-◌, arith, length, take, drop, needs}
+use Rattle.fips197.proofs.Kit.{◌≡◌, ap, ap₂, ◌∙◌, ℕ, ◌+◌, ◌-◌, arith, length, take, drop, rules}
 use Rattle.stamp.specs.Front.{version_of}
 use Rattle.stamp.proofs.Fronts.{front_low}
 use Rattle.files.specs.TagFile.{tags_at, tags_in}
@@ -27,6 +27,6 @@ returns c =
 pub tags-in-spec : {M : Type 1} → statement M
 tags-in-spec =
     tie.close
-    (tie.spec version-of-requires (λ c κs. search needs) (λ c. omega (arith, place c, c.before.before.before.requires))
+    (tie.spec version-of-requires (λ c κs. search rules) (λ c. omega (arith, place c, c.before.before.before.requires))
     (λ c. omega (arith, place c, c.before.before.before.requires)) (λ c. omega (arith, place c, c.before.before.before.requires))
-    (λ c. search needs) returns)
+    (λ c. search rules) returns)

@@ -1,5 +1,5 @@
 -- A column at a time (WordLaws).
-use Rattle.fips197.proofs.Kit.{needs}
+use Rattle.fips197.proofs.Kit.{rules}
 use Rattle.fips197.proofs.WordLaws.{keyed_columns}
 use Rattle.fips197.proofs.columns.add_round_key.Statement.{statement}
 use Rattle.fips197.proofs.columns.add_round_key.Tie as tie
@@ -15,5 +15,5 @@ returns c =
 pub add-round-key-spec : {M : Type 1} → statement M
 add-round-key-spec =
     tie.close
-    (tie.spec (λ c. search needs) (λ c κs. search needs) (λ c. search needs) (λ c κs. search needs) (λ c. search needs)
-    (λ c κs. search needs) (λ c. search needs) (λ c κs. search needs) returns)
+    (tie.spec (λ c. search rules) (λ c κs. search rules) (λ c. search rules) (λ c κs. search rules) (λ c. search rules)
+    (λ c κs. search rules) (λ c. search rules) (λ c κs. search rules) returns)

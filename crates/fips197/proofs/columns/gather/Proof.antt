@@ -1,5 +1,5 @@
 -- Four bytes through the table.
-use Rattle.fips197.proofs.Kit.{◌∙◌, [], ◌∷◌, needs}
+use Rattle.fips197.proofs.Kit.{◌∙◌, [], ◌∷◌, rules}
 use Rattle.fips197.proofs.columns.gather.Statement.{statement}
 use Rattle.fips197.proofs.columns.gather.Tie as tie
 
@@ -11,5 +11,5 @@ returns c =
 pub gather-spec : {M : Type 1} → statement M
 gather-spec =
     tie.close
-    (tie.spec (λ c. search needs) (λ c κs. search needs) (λ c. search needs) (λ c κs. search needs) (λ c. search needs)
-    (λ c κs. search needs) (λ c. search needs) (λ c κs. search needs) (λ c κs. search needs) returns)
+    (tie.spec (λ c. search rules) (λ c κs. search rules) (λ c. search rules) (λ c κs. search rules) (λ c. search rules)
+    (λ c κs. search rules) (λ c. search rules) (λ c κs. search rules) (λ c κs. search rules) returns)

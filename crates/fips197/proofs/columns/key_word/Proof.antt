@@ -1,5 +1,5 @@
 -- A word of the schedule is its four bytes (Schedules).
-use Rattle.fips197.proofs.Kit.{sym, ◌∙◌, arith, needs}
+use Rattle.fips197.proofs.Kit.{sym, ◌∙◌, arith, rules}
 use Rattle.fips197.proofs.Schedules.{word_is}
 use Rattle.fips197.proofs.columns.key_word.Statement.{statement}
 use Rattle.fips197.proofs.columns.key_word.Tie as tie
@@ -12,5 +12,5 @@ returns c =
 pub key-word-spec : {M : Type 1} → statement M
 key-word-spec =
     tie.close
-    (tie.spec (λ c. search needs) (λ c. search needs) (λ c. search needs) (λ c. search needs) (λ c. search needs)
-    (λ c. search needs) (λ c. search needs) (λ c. search needs) (λ c κs. search needs) returns)
+    (tie.spec (λ c. search rules) (λ c. search rules) (λ c. search rules) (λ c. search rules) (λ c. search rules)
+    (λ c. search rules) (λ c. search rules) (λ c. search rules) (λ c κs. search rules) returns)

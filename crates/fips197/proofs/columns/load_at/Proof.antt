@@ -1,5 +1,5 @@
 -- Four words that stand one after another are a block (States).
-use Rattle.fips197.proofs.Kit.{sym, ◌∙◌, ◌++◌, needs}
+use Rattle.fips197.proofs.Kit.{sym, ◌∙◌, ◌++◌, rules}
 use Rattle.fips197.specs.Words.{state_of}
 use Rattle.fips197.proofs.States.{words-at}
 use Rattle.fips197.proofs.columns.load_at.Statement.{statement}
@@ -15,5 +15,5 @@ returns c =
 pub load-at-spec : {M : Type 1} → statement M
 load-at-spec =
     tie.close
-    (tie.spec (λ c κs. search needs) (λ c. search needs) (λ c κs. search needs) (λ c. search needs) (λ c κs. search needs)
-    (λ c. search needs) (λ c κs. search needs) returns)
+    (tie.spec (λ c κs. search rules) (λ c. search rules) (λ c κs. search rules) (λ c. search rules) (λ c κs. search rules)
+    (λ c. search rules) (λ c κs. search rules) returns)

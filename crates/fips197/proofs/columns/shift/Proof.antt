@@ -1,5 +1,5 @@
 -- A column at a time (WordLaws).
-use Rattle.fips197.proofs.Kit.{needs}
+use Rattle.fips197.proofs.Kit.{rules}
 use Rattle.fips197.proofs.WordLaws.{shifted_columns}
 use Rattle.fips197.proofs.columns.shift.Statement.{statement}
 use Rattle.fips197.proofs.columns.shift.Tie as tie
@@ -13,4 +13,4 @@ returns c =
 pub shift-spec : {M : Type 1} → statement M
 shift-spec =
     tie.close
-    (tie.spec (λ c κs. search needs) (λ c κs. search needs) (λ c κs. search needs) (λ c κs. search needs) returns)
+    (tie.spec (λ c κs. search rules) (λ c κs. search rules) (λ c κs. search rules) (λ c κs. search rules) returns)

@@ -1,5 +1,5 @@
 -- Four words, each of its four bytes.
-use Rattle.fips197.proofs.Kit.{[], ◌∷◌, get_or, needs}
+use Rattle.fips197.proofs.Kit.{[], ◌∷◌, get_or, rules}
 use Rattle.fips197.specs.Words.{bytes_of, state_of}
 use Rattle.fips197.proofs.columns.store.Statement.{statement}
 use Rattle.fips197.proofs.columns.store.Tie as tie
@@ -19,7 +19,7 @@ returns c =
 pub store_spec : {M : Type 1} → statement M
 store_spec =
     tie.close
-    (tie.spec (λ c κs. search needs) (λ c κs. search needs) (λ c κs. search needs) (λ c κs. search needs) (λ c. search needs)
-    (λ c. search needs) (λ c. search needs) (λ c. search needs) (λ c. search needs) (λ c. search needs) (λ c. search needs)
-    (λ c. search needs) (λ c. search needs) (λ c. search needs) (λ c. search needs) (λ c. search needs) (λ c. search needs)
-    (λ c. search needs) (λ c. search needs) (λ c. search needs) returns)
+    (tie.spec (λ c κs. search rules) (λ c κs. search rules) (λ c κs. search rules) (λ c κs. search rules) (λ c. search rules)
+    (λ c. search rules) (λ c. search rules) (λ c. search rules) (λ c. search rules) (λ c. search rules) (λ c. search rules)
+    (λ c. search rules) (λ c. search rules) (λ c. search rules) (λ c. search rules) (λ c. search rules) (λ c. search rules)
+    (λ c. search rules) (λ c. search rules) (λ c. search rules) returns)

@@ -1,5 +1,5 @@
 -- A word at a time; the constant is a word of one byte (WordLaws).
-use Rattle.fips197.proofs.Kit.{ap, ◌∙◌, List, ℕ, ◌<◌, needs}
+use Rattle.fips197.proofs.Kit.{ap, ◌∙◌, List, ℕ, ◌<◌, rules}
 use Rattle.fips197.specs.Block.{◌⊕◌}
 use Rattle.fips197.specs.Aes.{rcon}
 use Rattle.fips197.specs.Words.{bytes_of}
@@ -14,8 +14,8 @@ returns c =
     let k = f.before.args.k in
     let x = f.before.args.x in
     let e = f.rcon.ensures in
-    let h : f.rcon.result < 256 = search needs in
+    let h : f.rcon.result < 256 = search rules in
     (bytes-xor k.a _ ∙ ap (λ (l : List ℕ). bytes_of k.a ⊕ l) (bytes-xor x _ ∙ ap (λ (l : List ℕ). bytes_of x ⊕ l) (bytes_small _ _ h e)), (bytes-xor k.b _, bytes-xor k.c _, bytes-xor k.d _))
 
 pub next-key-spec : {M : Type 1} → statement M
-next-key-spec = tie.close (tie.spec (λ c κs. search needs) (λ c. search needs) returns)
+next-key-spec = tie.close (tie.spec (λ c κs. search rules) (λ c. search rules) returns)

@@ -1,5 +1,5 @@
 -- Byte by byte, 14, 11, 13 and 9 times in xtimes (WordLaws).
-use Rattle.fips197.proofs.Kit.{needs}
+use Rattle.fips197.proofs.Kit.{rules}
 use Rattle.fips197.proofs.WordLaws.{inv_mix_bytes}
 use Rattle.fips197.proofs.words.inv_mix.Statement.{statement}
 use Rattle.fips197.proofs.words.inv_mix.Tie as tie
@@ -12,4 +12,4 @@ returns c =
 pub inv-mix-spec : {M : Type 1} → statement M
 inv-mix-spec =
     tie.close
-    (tie.spec (λ c κs. search needs) (λ c κs. search needs) (λ c κs. search needs) (λ c κs. search needs) returns)
+    (tie.spec (λ c κs. search rules) (λ c κs. search rules) (λ c κs. search rules) (λ c κs. search rules) returns)

@@ -1,5 +1,5 @@
 -- Byte by byte, 2 and 3 times in xtimes (WordLaws).
-use Rattle.fips197.proofs.Kit.{needs}
+use Rattle.fips197.proofs.Kit.{rules}
 use Rattle.fips197.proofs.WordLaws.{mix_bytes}
 use Rattle.fips197.proofs.words.mix.Statement.{statement}
 use Rattle.fips197.proofs.words.mix.Tie as tie
@@ -10,4 +10,4 @@ returns c = mix_bytes c.before.before.before.before.args.x _ _ _ _ c.before.befo
 pub mix-spec : {M : Type 1} → statement M
 mix-spec =
     tie.close
-    (tie.spec (λ c κs. search needs) (λ c κs. search needs) (λ c κs. search needs) (λ c κs. search needs) returns)
+    (tie.spec (λ c κs. search rules) (λ c κs. search rules) (λ c κs. search rules) (λ c κs. search rules) returns)

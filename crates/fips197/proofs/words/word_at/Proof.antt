@@ -1,5 +1,5 @@
 -- Four bytes that stand one after another are a word (States).
-use Rattle.fips197.proofs.Kit.{sym, ◌∙◌, needs}
+use Rattle.fips197.proofs.Kit.{sym, ◌∙◌, rules}
 use Rattle.fips197.proofs.States.{bytes-at}
 use Rattle.fips197.proofs.words.word_at.Statement.{statement}
 use Rattle.fips197.proofs.words.word_at.Tie as tie
@@ -12,5 +12,5 @@ returns c =
 pub word-at-spec : {M : Type 1} → statement M
 word-at-spec =
     tie.close
-    (tie.spec (λ c. search needs) (λ c. search needs) (λ c. search needs) (λ c. search needs) (λ c. search needs)
-    (λ c. search needs) (λ c. search needs) (λ c κs. search needs) returns)
+    (tie.spec (λ c. search rules) (λ c. search rules) (λ c. search rules) (λ c. search rules) (λ c. search rules)
+    (λ c. search rules) (λ c. search rules) (λ c κs. search rules) returns)

@@ -1,5 +1,5 @@
 -- The message stays in the buffer, whose length does not change.
-use Rattle.fips197.proofs.Kit.{◌-◌, ◌≤◌, ◌≡◌, length, needs}
+use Rattle.fips197.proofs.Kit.{◌-◌, ◌≤◌, ◌≡◌, length, rules}
 use Rattle.gtm.proofs.cards.append_files.Statement.{statement}
 use Rattle.gtm.proofs.cards.append_files.Tie as tie
 
@@ -12,5 +12,5 @@ decreases-loop file₀ size first count n₀ i₀ file n i = count - i
 pub append-files-spec : {M : Type 1} → statement M
 append-files-spec =
     tie.close
-    (tie.spec invariant-loop decreases-loop (λ c. search needs) (λ c κs. search needs) (λ c. search needs) (λ c. search needs)
-    (λ c. search needs) (λ c. search needs) (λ c. search needs) (λ c. search needs) (λ c. search needs))
+    (tie.spec invariant-loop decreases-loop (λ c. search rules) (λ c κs. search rules) (λ c. search rules) (λ c. search rules)
+    (λ c. search rules) (λ c. search rules) (λ c. search rules) (λ c. search rules) (λ c. search rules))

@@ -1,5 +1,5 @@
 -- The codes come one after another, up to the last that a byte is.
-use Rattle.fips197.proofs.Kit.{◌-◌, ◌≤◌, needs}
+use Rattle.fips197.proofs.Kit.{◌-◌, ◌≤◌, rules}
 use Rattle.gtm.proofs.codes.list.Statement.{statement}
 use Rattle.gtm.proofs.codes.list.Tie as tie
 
@@ -12,5 +12,5 @@ decreases-loop code₀ code = 256 - code
 pub list-spec : {M : Type 1} → statement M
 list-spec =
     tie.close
-    (tie.spec invariant-loop decreases-loop (λ c κs. search needs) (λ c. search needs) (λ c. search needs) (λ c. search needs)
-    (λ c κs. search needs) (λ c. search needs) (λ c. search needs) (λ c. search needs) (λ c. search needs) (λ c. search needs))
+    (tie.spec invariant-loop decreases-loop (λ c κs. search rules) (λ c. search rules) (λ c. search rules) (λ c. search rules)
+    (λ c κs. search rules) (λ c. search rules) (λ c. search rules) (λ c. search rules) (λ c. search rules) (λ c. search rules))

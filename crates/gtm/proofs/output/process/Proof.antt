@@ -1,5 +1,5 @@
 -- A number above 0 keeps its value in 64 bits without a sign.
-use Rattle.fips197.proofs.Kit.{◌≡◌, true, ℕ, arith, T, ℤ, pos, negsuc, nat_abs, lt_z, non_neg, w32, w64, Fits, SFits, to_z, of_z, Fits-nat_abs, Fits-of_z, sfits_to_z, needs}
+use Rattle.fips197.proofs.Kit.{◌≡◌, true, ℕ, arith, T, ℤ, pos, negsuc, nat_abs, lt_z, non_neg, w32, w64, Fits, SFits, to_z, of_z, Fits-nat_abs, Fits-of_z, sfits_to_z, rules}
 use Rattle.gtm.proofs.output.process.Statement.{statement}
 use Rattle.gtm.proofs.output.process.Tie as tie
 
@@ -14,4 +14,4 @@ cast-result c =
     positive (to_z w32 (of_z w32 r)) (sfits_to_z (Fits-of_z f)) c.if1.true
 
 pub process-spec : {M : Type 1} → statement M
-process-spec = tie.close (tie.spec (λ c κs. search needs) cast-result (λ c. search needs) (λ c. search needs))
+process-spec = tie.close (tie.spec (λ c κs. search rules) cast-result (λ c. search rules) (λ c. search rules))

@@ -1,5 +1,5 @@
 -- The steps, one after the other.
-use Rattle.fips197.proofs.Kit.{ap, ◌∙◌, List, ℕ, needs}
+use Rattle.fips197.proofs.Kit.{ap, ◌∙◌, List, ℕ, rules}
 use Rattle.fips197.specs.Block.{◌⊕◌}
 use Rattle.fips197.specs.Aes.{inv_sbox, inv_sub_bytes, inv_mix_columns, round_key}
 use Rattle.plain.proofs.rounds.inv_round.Statement.{statement}
@@ -14,4 +14,4 @@ returns c =
     ∙ ap (λ (s : List ℕ). s ⊕ round_key d.args.w.now d.args.n) (c.before.before.inv-shift.ensures inv_sbox d.requires.0))
 
 pub inv-round-spec : {M : Type 1} → statement M
-inv-round-spec = tie.close (tie.spec (λ c κs. search needs) (λ c κs. search needs) (λ c κs. search needs) returns)
+inv-round-spec = tie.close (tie.spec (λ c κs. search rules) (λ c κs. search rules) (λ c κs. search rules) returns)

@@ -1,5 +1,5 @@
 -- A column at a time (WordLaws).
-use Rattle.fips197.proofs.Kit.{needs}
+use Rattle.fips197.proofs.Kit.{rules}
 use Rattle.fips197.proofs.WordLaws.{mixed_columns}
 use Rattle.fips197.specs.Aes.{mixed, mix_columns}
 use Rattle.plain.proofs.rounds.mix_columns.Statement.{statement}
@@ -15,4 +15,4 @@ returns c =
 pub mix-columns-spec : {M : Type 1} → statement M
 mix-columns-spec =
     tie.close
-    (tie.spec (λ c κs. search needs) (λ c κs. search needs) (λ c κs. search needs) (λ c κs. search needs) returns)
+    (tie.spec (λ c κs. search rules) (λ c κs. search rules) (λ c κs. search rules) (λ c κs. search rules) returns)

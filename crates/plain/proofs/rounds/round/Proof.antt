@@ -1,5 +1,5 @@
 -- The steps, one after the other.
-use Rattle.fips197.proofs.Kit.{ap, ◌∙◌, List, ℕ, needs}
+use Rattle.fips197.proofs.Kit.{ap, ◌∙◌, List, ℕ, rules}
 use Rattle.fips197.specs.Block.{◌⊕◌}
 use Rattle.fips197.specs.Aes.{sbox, sub_bytes, mix_columns, round_key}
 use Rattle.plain.proofs.rounds.round.Statement.{statement}
@@ -14,4 +14,4 @@ returns c =
     (c.before.mix-columns.ensures ∙ ap mix_columns (c.before.before.shift.ensures sbox d.requires.0))
 
 pub round-spec : {M : Type 1} → statement M
-round-spec = tie.close (tie.spec (λ c κs. search needs) (λ c κs. search needs) (λ c κs. search needs) returns)
+round-spec = tie.close (tie.spec (λ c κs. search rules) (λ c κs. search rules) (λ c κs. search rules) returns)

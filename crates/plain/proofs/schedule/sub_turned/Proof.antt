@@ -1,5 +1,5 @@
 -- Each byte of the word goes through the table.
-use Rattle.fips197.proofs.Kit.{ap, ◌∙◌, needs}
+use Rattle.fips197.proofs.Kit.{ap, ◌∙◌, rules}
 use Rattle.fips197.specs.Aes.{sbox, sub_word}
 use Rattle.fips197.specs.Words.{bytes_of}
 use Rattle.plain.proofs.schedule.sub_turned.Statement.{statement}
@@ -10,4 +10,4 @@ unfolding sub_word bytes_of
 returns c = c.gather.ensures sbox c.before.before.requires ∙ ap sub_word c.before.turn.ensures
 
 pub sub-turned-spec : {M : Type 1} → statement M
-sub-turned-spec = tie.close (tie.spec (λ c κs. search needs) (λ c κs. search needs) returns)
+sub-turned-spec = tie.close (tie.spec (λ c κs. search rules) (λ c κs. search rules) returns)

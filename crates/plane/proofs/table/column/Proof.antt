@@ -1,5 +1,5 @@
 -- Each entry by its place; beyond them both are 0.
-use Rattle.fips197.proofs.Kit.{◌≡◌, sym, ap, ℕ, arith, length, get_or, List·getD-eq-default, needs}
+use Rattle.fips197.proofs.Kit.{◌≡◌, sym, ap, ℕ, arith, length, get_or, List·getD-eq-default, rules}
 use Rattle.plane.proofs.table.column.Statement.{statement}
 use Rattle.plane.proofs.table.column.Tie as tie
 
@@ -20,11 +20,11 @@ returns-5 c = ap (λ (s : ℕ). get_or c.before.args.t1 s 0) (sym c.match.keys5)
 
 returns-6 : tie.Need-returns-6
 returns-6 c =
-    let h : length c.before.args.t1 ≡ 5 = search needs in
+    let h : length c.before.args.t1 ≡ 5 = search rules in
     sym (List·getD-eq-default c.before.args.t1 0 (omega (arith, c.match.rest)))
 
 pub column-spec : {M : Type 1} → statement M
 column-spec =
     tie.close
-    (tie.spec (λ c. search needs) (λ c. search needs) (λ c. search needs) (λ c. search needs) (λ c. search needs) returns
+    (tie.spec (λ c. search rules) (λ c. search rules) (λ c. search rules) (λ c. search rules) (λ c. search rules) returns
     returns-2 returns-3 returns-4 returns-5 returns-6)

@@ -1,5 +1,5 @@
 -- An entry of the plane's part of the table.
-use Rattle.fips197.proofs.Kit.{refl, ap, ◌∙◌, List, arith, length, get_or, ℕ, needs}
+use Rattle.fips197.proofs.Kit.{refl, ap, ◌∙◌, List, arith, length, get_or, ℕ, rules}
 use Rattle.plane.specs.Table.{difference_lists}
 use Rattle.plane.proofs.table.difference.Statement.{statement}
 use Rattle.plane.proofs.table.difference.Tie as tie
@@ -15,4 +15,4 @@ returns : tie.Need-returns
 returns c = c.read.ensures ∙ ap (λ (l : List ℕ). get_or l c.before.before.before.args.k 0) c.before.differences.ensures
 
 pub difference-spec : {M : Type 1} → statement M
-difference-spec = tie.close (tie.spec (λ c. search needs) differences-requires read-requires returns)
+difference-spec = tie.close (tie.spec (λ c. search rules) differences-requires read-requires returns)

@@ -1,5 +1,5 @@
 -- The plane's part of the table (Lookup).
-use Rattle.fips197.proofs.Kit.{refl, arith, needs}
+use Rattle.fips197.proofs.Kit.{refl, arith, rules}
 use Rattle.plane.proofs.Lookup.{difference_table, difference_end, difference_room, difference_part}
 use Rattle.plane.proofs.table.differences.Statement.{statement}
 use Rattle.plane.proofs.table.differences.Tie as tie
@@ -23,5 +23,5 @@ returns c =
 pub differences-spec : {M : Type 1} → statement M
 differences-spec =
     tie.close
-    (tie.spec (λ c κs. search needs) (λ c κs. search needs) add-result mul-result (λ c. search needs) (λ c. search needs)
+    (tie.spec (λ c κs. search rules) (λ c κs. search rules) add-result mul-result (λ c. search rules) (λ c. search rules)
     part-result-end returns)

@@ -1,5 +1,5 @@
 -- The column is the definition's.
-use Rattle.fips197.proofs.Kit.{needs}
+use Rattle.fips197.proofs.Kit.{rules}
 use Rattle.plane.specs.Table.{limits, plane_limit}
 use Rattle.plane.proofs.table.limit.Statement.{statement}
 use Rattle.plane.proofs.table.limit.Tie as tie
@@ -9,4 +9,4 @@ unfolding plane_limit limits
 returns c = c.column.ensures
 
 pub limit-spec : {M : Type 1} → statement M
-limit-spec = tie.close (tie.spec (λ c κs. search needs) returns)
+limit-spec = tie.close (tie.spec (λ c κs. search rules) returns)

@@ -1,5 +1,5 @@
 -- The plane's part of the table (Lookup).
-use Rattle.fips197.proofs.Kit.{refl, arith, needs}
+use Rattle.fips197.proofs.Kit.{refl, arith, rules}
 use Rattle.plane.proofs.Lookup.{pattern_table, pattern_end, pattern_room, pattern_part}
 use Rattle.plane.proofs.table.pattern.Statement.{statement}
 use Rattle.plane.proofs.table.pattern.Tie as tie
@@ -20,5 +20,5 @@ returns c =
 pub pattern-spec : {M : Type 1} → statement M
 pattern-spec =
     tie.close
-    (tie.spec (λ c κs. search needs) (λ c κs. search needs) add-result (λ c. search needs) (λ c. search needs)
+    (tie.spec (λ c κs. search rules) (λ c κs. search rules) add-result (λ c. search rules) (λ c. search rules)
     part-result-end returns)

@@ -1,5 +1,5 @@
 -- What is found and what is still to be found are all of them (Ranks).
-use Rattle.fips197.proofs.Kit.{◌≡◌, ap, ◌∙◌, ⊎_elim, List, ℕ, ◌+◌, ◌-◌, ◌≤◌, arith, length, drop, drop-length, needs}
+use Rattle.fips197.proofs.Kit.{◌≡◌, ap, ◌∙◌, ⊎_elim, List, ℕ, ◌+◌, ◌-◌, ◌≤◌, arith, length, drop, drop-length, rules}
 use Rattle.plane.proofs.Ranks.{rank, rank_length, rank_more, rank_same}
 use Rattle.plane.proofs.table.rank.Statement.{statement}
 use Rattle.plane.proofs.table.rank.Tie as tie
@@ -40,4 +40,4 @@ returns c =
 pub rank-spec : {M : Type 1} → statement M
 rank-spec =
     tie.close
-    (tie.spec invariant-loop decreases-loop (λ c. search needs) (λ c κs. search needs) add-found (λ c. search needs) (λ c. search needs) loop-again returns)
+    (tie.spec invariant-loop decreases-loop (λ c. search rules) (λ c κs. search rules) add-found (λ c. search rules) (λ c. search rules) loop-again returns)

@@ -1,5 +1,5 @@
 -- By whether the difference leads past the last item (Walks).
-use Rattle.fips197.proofs.Kit.{arith, needs}
+use Rattle.fips197.proofs.Kit.{arith, rules}
 use Rattle.plane.proofs.Lookup.{items-most}
 use Rattle.plane.proofs.Walks.{few, walk_turn, difference_high, round_past, round_item, ahead_place, ahead_item}
 use Rattle.plane.proofs.walk.item_at.Statement.{statement}
@@ -39,5 +39,5 @@ returns-2 c =
 pub item-at-spec : {M : Type 1} → statement M
 item-at-spec =
     tie.close
-    (tie.spec add-place (λ c κs. search needs) add-result (λ c κs. search needs) sub-result returns (λ c. search needs)
+    (tie.spec add-place (λ c κs. search rules) add-result (λ c κs. search rules) sub-result returns (λ c. search rules)
     read-requires-2 add-result-2 returns-2)

@@ -1,5 +1,5 @@
 -- By the pattern, or nothing where the row has a tag or there is no such row (Walks).
-use Rattle.fips197.proofs.Kit.{refl, arith, needs}
+use Rattle.fips197.proofs.Kit.{refl, arith, rules}
 use Rattle.incidence.proofs.Listing.{written_none}
 use Rattle.plane.specs.Table.{pattern_lists}
 use Rattle.plane.proofs.Walks.{made-none-low, made-none-high}
@@ -23,4 +23,4 @@ pattern-requires c κs = refl
 pub made-of-spec : {M : Type 1} → statement M
 made-of-spec =
     tie.close
-    (tie.spec (λ c κs. search needs) returns (λ c κs. search needs) returns-2 (λ c. search needs) pattern-requires (λ c κs. search needs) (λ c. search needs))
+    (tie.spec (λ c κs. search rules) returns (λ c κs. search rules) returns-2 (λ c. search rules) pattern-requires (λ c κs. search rules) (λ c. search rules))

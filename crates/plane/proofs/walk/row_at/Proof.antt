@@ -1,5 +1,5 @@
 -- The item at the same place from the other end (Walks).
-use Rattle.fips197.proofs.Kit.{arith, needs}
+use Rattle.fips197.proofs.Kit.{arith, rules}
 use Rattle.plane.proofs.Lookup.{items-most}
 use Rattle.plane.proofs.Walks.{walk_high, walk_back}
 use Rattle.plane.proofs.walk.row_at.Statement.{statement}
@@ -21,4 +21,4 @@ returns c =
 pub row-at-spec : {M : Type 1} → statement M
 row-at-spec =
     tie.close
-    (tie.spec (λ c κs. search needs) add-result (λ c. search needs) (λ c. search needs) (λ c κs. search needs) sub-result returns)
+    (tie.spec (λ c κs. search rules) add-result (λ c. search rules) (λ c. search rules) (λ c κs. search rules) sub-result returns)

@@ -1,5 +1,5 @@
 -- By the definition.
-use Rattle.fips197.proofs.Kit.{needs}
+use Rattle.fips197.proofs.Kit.{rules}
 use Rattle.plane.proofs.Walks.{tag_yes, tag_no}
 use Rattle.plane.specs.Plane.{plane}
 use Rattle.plane.proofs.walk.tag_of_row.Statement.{statement}
@@ -14,4 +14,4 @@ unfolding plane
 returns-2 c = tag_no _ _ _ c.before.tags.ensures c.if1.false
 
 pub tag-of-row-spec : {M : Type 1} → statement M
-tag-of-row-spec = tie.close (tie.spec (λ c κs. search needs) returns returns-2)
+tag-of-row-spec = tie.close (tie.spec (λ c κs. search rules) returns returns-2)

@@ -1,5 +1,5 @@
 -- The walk back along the row that stands as far from the end as the item, or nothing where there is no such item (Walks).
-use Rattle.fips197.proofs.Kit.{◌≡◌, sym, ap, ◌∙◌, ◌+◌, ◌-◌, arith, needs}
+use Rattle.fips197.proofs.Kit.{◌≡◌, sym, ap, ◌∙◌, ◌+◌, ◌-◌, arith, rules}
 use Rattle.incidence.specs.Family.{tags_of}
 use Rattle.incidence.proofs.Counting.{inside-low, inside-high, inside_of}
 use Rattle.incidence.proofs.Listing.{written_as, written_none}
@@ -25,7 +25,7 @@ walk-requires c κs =
     let m = t.before.before.items.ensures in
     let j = t.before.before.before.args.j in
     let w = sym t.before.inside.ensures ∙ t.if1.true in
-    ((omega (arith, m, inside-high _ j w), omega (arith, m, inside-low _ j w)), search needs)
+    ((omega (arith, m, inside-high _ j w), omega (arith, m, inside-low _ j w)), search rules)
 
 returns : tie.Need-returns
 unfolding along
@@ -44,4 +44,4 @@ returns-2 c =
 pub tags-of-spec : {M : Type 1} → statement M
 tags-of-spec =
     tie.close
-    (tie.spec (λ c κs. search needs) (λ c κs. search needs) add-walk sub-walk walk-requires returns returns-2)
+    (tie.spec (λ c κs. search rules) (λ c κs. search rules) add-walk sub-walk walk-requires returns returns-2)

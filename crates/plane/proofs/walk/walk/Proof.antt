@@ -1,5 +1,5 @@
 -- The table is taken and searched once, and followed from where it turns (Walks).
-use Rattle.fips197.proofs.Kit.{refl, arith, needs}
+use Rattle.fips197.proofs.Kit.{refl, arith, rules}
 use Rattle.plane.specs.Table.{difference_lists}
 use Rattle.plane.specs.Walk.{Walk}
 use Rattle.plane.proofs.Walks.{walk_of}
@@ -36,5 +36,5 @@ returns-2 c = let w = c.before.before in rw w.before.before.if1.false w.write-it
 pub walk-spec : {M : Type 1} → statement M
 walk-spec =
     tie.close
-    (tie.spec (λ c. search needs) differences-requires (λ c κs. search needs) sub-rank (λ c κs. search needs) write-tags-requires
-    (λ c. search needs) returns write-items-requires (λ c. search needs) returns-2)
+    (tie.spec (λ c. search rules) differences-requires (λ c κs. search rules) sub-rank (λ c κs. search rules) write-tags-requires
+    (λ c. search rules) returns write-items-requires (λ c. search rules) returns-2)

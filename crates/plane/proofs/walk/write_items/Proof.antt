@@ -1,5 +1,5 @@
 -- The list from where it turns on, and then what stands before that place, each moved (Walks).
-use Rattle.fips197.proofs.Kit.{◌≡◌, refl, sym, ap, ◌∙◌, List, ◌++◌, map, ℕ, ◌+◌, ◌-◌, ◌≤◌, arith, length, take, drop, take_all, length-map, length-take-le, length-drop, needs}
+use Rattle.fips197.proofs.Kit.{◌≡◌, refl, sym, ap, ◌∙◌, List, ◌++◌, map, ℕ, ◌+◌, ◌-◌, ◌≤◌, arith, length, take, drop, take_all, length-map, length-take-le, length-drop, rules}
 use Rattle.blocks.proofs.Loop.{put_behind, front_kept}
 use Rattle.incidence.specs.Family.{items_of}
 use Rattle.plane.specs.Plane.{plane}
@@ -82,7 +82,7 @@ returns c =
 pub write-items-spec : {M : Type 1} → statement M
 write-items-spec =
     tie.close
-    (tie.spec (λ c. let W = c.before.before.requires.0 in omega (arith, walk_turn W, few W)) (λ c. omega (arith, walk_turn c.before.before.requires.0)) (λ c. omega (arith, walk_turn c.before.before.requires.0)) (λ c. search needs)
-    (λ c κs. search needs) write-moved-requires (λ c. search needs) (λ c. search needs)
+    (tie.spec (λ c. let W = c.before.before.requires.0 in omega (arith, walk_turn W, few W)) (λ c. omega (arith, walk_turn c.before.before.requires.0)) (λ c. omega (arith, walk_turn c.before.before.requires.0)) (λ c. search rules)
+    (λ c κs. search rules) write-moved-requires (λ c. search rules) (λ c. search rules)
     (λ c. omega (arith, walk_turn c.before.before.before.before.before.before.before.before.requires.0))
-    (λ c. omega (arith, walk_turn c.before.before.before.before.before.before.before.before.before.requires.0)) write-moved-requires-2 (λ c. search needs) returns)
+    (λ c. omega (arith, walk_turn c.before.before.before.before.before.before.before.before.before.requires.0)) write-moved-requires-2 (λ c. search rules) returns)

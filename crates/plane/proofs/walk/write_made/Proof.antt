@@ -1,5 +1,5 @@
 -- Each turn stores one row (blocks, Loop).
-use Rattle.fips197.proofs.Kit.{◌≡◌, refl, ap, ◌∙◌, ◌-◌, ◌≤◌, ◌<◌, arith, length, get_or, needs}
+use Rattle.fips197.proofs.Kit.{◌≡◌, refl, ap, ◌∙◌, ◌-◌, ◌≤◌, ◌<◌, arith, length, get_or, rules}
 use Rattle.blocks.proofs.Loop.{part, part_turn, part_front}
 use Rattle.plane.specs.Table.{plane_pattern}
 use Rattle.plane.specs.Plane.{plane}
@@ -45,7 +45,7 @@ loop-again c =
     let a = b.args in
     let p = b.requires.0 in (
       omega arith,
-      search needs,
+      search rules,
       part_turn l.loop.k ((plane a.s).made a.i) a.out.now l.loop.out _ l.loop.invariant.2
           (omega (arith, place c, pattern_few a.s, b.requires.1)) (omega (arith, place c, made-length a.s a.i p.0 p.1))
           (made_row a.s a.i p.0 p.1 (place c) (entry c)),
@@ -62,5 +62,5 @@ returns c =
 pub write-made-spec : {M : Type 1} → statement M
 write-made-spec =
     tie.close
-    (tie.spec invariant-loop decreases-loop cast-row (λ c. search needs) (λ c κs. search needs) sub_out mul-out slice-write-out (λ c. search needs) (λ c. search needs)
-    loop-again (λ c. search needs) returns)
+    (tie.spec invariant-loop decreases-loop cast-row (λ c. search rules) (λ c κs. search rules) sub_out mul-out slice-write-out (λ c. search rules) (λ c. search rules)
+    loop-again (λ c. search rules) returns)

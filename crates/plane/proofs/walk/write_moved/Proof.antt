@@ -1,5 +1,5 @@
 -- Each turn stores one number (fips197's Loop).
-use Rattle.fips197.proofs.Kit.{◌≡◌, refl, sym, ap, ◌∙◌, map, ◌++◌, ℕ, ◌+◌, ◌-◌, ◌≤◌, arith, length, take, drop, length-map, needs}
+use Rattle.fips197.proofs.Kit.{◌≡◌, refl, sym, ap, ◌∙◌, map, ◌++◌, ℕ, ◌+◌, ◌-◌, ◌≤◌, arith, length, take, drop, length-map, rules}
 use Rattle.fips197.proofs.Loop.{part, place-first, place_turn, place_done}
 use Rattle.blocks.proofs.Loop.{map_at}
 use Rattle.plane.proofs.walk.write_moved.Statement.{statement}
@@ -38,7 +38,7 @@ loop-again c =
     let a = d.args in
     let h = c.before.loop-test.true in (
       omega arith,
-      search needs,
+      search rules,
       place_turn a.out.now (map (moved d) a.list.now) a.at (length a.list.now) d.requires.0.2 (long d) l.loop.k l.loop.out _ h l.loop.invariant.2
           (ap (moved d) c.read.ensures ∙ sym (map_at (moved d) a.list.now l.loop.k h)),
     )
@@ -53,10 +53,10 @@ returns c =
 pub write-moved-spec : {M : Type 1} → statement M
 write-moved-spec =
     tie.close
-    (tie.spec invariant-loop decreases-loop loop-holds (λ c κs. search needs)
+    (tie.spec invariant-loop decreases-loop loop-holds (λ c κs. search rules)
     (λ c. let l = c.before.before in omega (arith, c.read.ensures, l.before.before.shared-slice-known.given l.loop.k, l.before.before.before.requires.0.0))
     (λ c. let l = c.before.before in rw c.read.ensures (l.before.before.before.requires.1 l.loop.k c.before.loop-test.true))
     (λ c. let l = c.before.before in omega (arith, c.before.loop-test.true, l.before.before.before.requires.0.2, l.before.before.before.requires.0.1))
-    (λ c. search needs)
+    (λ c. search rules)
     (λ c. let l = c.before.before in omega (arith, c.before.loop-test.true, l.before.before.before.requires.0.2, l.loop.invariant.1))
-    (λ c. search needs) (λ c. search needs) loop-again (λ c. search needs) returns)
+    (λ c. search rules) (λ c. search rules) loop-again (λ c. search rules) returns)

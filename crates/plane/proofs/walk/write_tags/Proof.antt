@@ -1,5 +1,5 @@
 -- Each turn stores one row, which is a tag, and the first past t ends the walk (Walks).
-use Rattle.fips197.proofs.Kit.{◌≡◌, refl, ◌+◌, ◌-◌, ◌≤◌, ◌<◌, arith, length, needs}
+use Rattle.fips197.proofs.Kit.{◌≡◌, refl, ◌+◌, ◌-◌, ◌≤◌, ◌<◌, arith, length, rules}
 use Rattle.blocks.proofs.Loop.{part, part_turn, part_front}
 use Rattle.incidence.specs.Family.{rows_of, tags_of}
 use Rattle.plane.specs.Table.{plane_items, plane_tags}
@@ -55,7 +55,7 @@ loop-again c =
     let u : r.row_at.result ≤ plane_tags a.s = omega (arith, c.if1.false, l.before.tags.ensures) in
     let n = tag_next a.s j f (place r) r.row_at.ensures u in (
       omega (arith, n),
-      search needs,
+      search rules,
       part_turn l.loop.k (tags_of (plane a.s) j) a.out.now l.loop.out _ l.loop.invariant.2
           (omega (arith, r.before.loop-test.true, few d.requires.0, d.requires.1)) n (tag_at a.s j f (place r) r.row_at.ensures u),
     )
@@ -74,5 +74,5 @@ returns-2 c =
 pub write-tags-spec : {M : Type 1} → statement M
 write-tags-spec =
     tie.close
-    (tie.spec invariant-loop decreases-loop (λ c κs. search needs) (λ c. search needs) (λ c κs. search needs) (λ c. search needs) returns mul-out slice-write-out
-    (λ c. search needs) (λ c. search needs) loop-again (λ c. search needs) returns-2)
+    (tie.spec invariant-loop decreases-loop (λ c κs. search rules) (λ c. search rules) (λ c κs. search rules) (λ c. search rules) returns mul-out slice-write-out
+    (λ c. search rules) (λ c. search rules) loop-again (λ c. search rules) returns-2)

@@ -1,5 +1,5 @@
 -- The tag file of the sums where the refusal's number is 0, else all as it was (Stepping).
-use Rattle.fips197.proofs.Kit.{◌≡◌, sym, ap, ◌∙◌, subst, true, ◌++◌, ◌*◌, ◌≤◌, length, drop, needs}
+use Rattle.fips197.proofs.Kit.{◌≡◌, sym, ap, ◌∙◌, subst, true, ◌++◌, ◌*◌, ◌≤◌, length, drop, rules}
 use Rattle.sizes.specs.Sizes.{known, family_of}
 use Rattle.files.specs.declared.tagfile.Head.{Head}
 use Rattle.files.specs.TagFile.{file_size}
@@ -13,7 +13,7 @@ use Rattle.session.proofs.Session.close.Statement.{statement}
 use Rattle.session.proofs.Session.close.Tie as tie
 
 close-refusal-requires : tie.Need-close-refusal-requires
-close-refusal-requires c κs = search needs
+close-refusal-requires c κs = search rules
 
 returns : tie.Need-returns
 unfolding close_refusal close_gives close_writes
@@ -25,7 +25,7 @@ returns c =
     let e = q.close-refusal.ensures in (e, (kept _ (close_refusal s o) e closed s c.if1.true, kept _ (close_refusal s o) e _ o c.if1.true))
 
 slice-aggregate-write-file : tie.Need-slice-aggregate-write-file
-slice-aggregate-write-file c = search needs
+slice-aggregate-write-file c = search rules
 
 write-file-requires : tie.Need-write-file-requires
 unfolding close_refusal session_head
@@ -37,16 +37,16 @@ write-file-requires c κs =
     let s = d.args.self in
     let h : length s.sums ≡ 1312 = sym (slice-aggregate-write-file c.before) in
     let p = close_tells s d.args.out.now _ q.close-refusal.ensures f.if1.false in (
-      search needs,
+      search rules,
       subst (λ (x : Head). (known x.code ≡ true) × ((x.count ≤ (family_of x.code).items) × ((16 * (family_of x.code).tags ≤ length s.sums) × (file_size x ≤ length d.args.out.now)))) (sym e)
           (p.code, (p.fits, (sums_fit s.code s.sums h, p.room))),
     )
 
 closed-requires : tie.Need-closed-requires
-closed-requires c κs = search needs
+closed-requires c κs = search rules
 
 same_length : tie.Need-same-length
-same_length c = search needs
+same_length c = search rules
 
 returns-2 : tie.Need-returns-2
 unfolding close_refusal close_gives close_writes
@@ -67,8 +67,8 @@ close_spec =
     (tie.spec
     close-refusal-requires
     returns
-    (λ c κs. search needs)
-    (λ c κs. search needs)
+    (λ c κs. search rules)
+    (λ c κs. search rules)
     slice-aggregate-write-file
     write-file-requires
     closed-requires

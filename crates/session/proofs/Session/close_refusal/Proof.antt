@@ -1,5 +1,5 @@
 -- 24, 23 and 7 (Passing).
-use Rattle.fips197.proofs.Kit.{ap, ◌∙◌, ℕ, needs}
+use Rattle.fips197.proofs.Kit.{ap, ◌∙◌, ℕ, rules}
 use Rattle.files.specs.Arguments.{refuse7}
 use Rattle.files.specs.TagFile.{file_size}
 use Rattle.files.proofs.Passing.{same_first, same_cons, same_nil}
@@ -19,5 +19,5 @@ returns c =
 pub close-refusal-spec : {M : Type 1} → statement M
 close-refusal-spec =
     tie.close
-    (tie.spec (λ c κs. search needs) (λ c κs. search needs) (λ c κs. search needs) (λ c κs. search needs) (λ c κs. search needs) (λ c κs. search needs)
+    (tie.spec (λ c κs. search rules) (λ c κs. search rules) (λ c κs. search rules) (λ c κs. search rules) (λ c κs. search rules) (λ c κs. search rules)
     returns)

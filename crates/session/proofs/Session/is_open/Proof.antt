@@ -1,5 +1,5 @@
 -- By its two tests.
-use Rattle.fips197.proofs.Kit.{sym, ap, ◌∙◌, Bool, ◌&&◌, leb, needs}
+use Rattle.fips197.proofs.Kit.{sym, ap, ◌∙◌, Bool, ◌&&◌, leb, rules}
 use Rattle.incidence.proofs.Booleans.{and_false_l}
 use Rattle.session.specs.Session.{session_is_open}
 use Rattle.session.proofs.Session.is_open.Statement.{statement}
@@ -18,4 +18,4 @@ returns-2 c =
     c.if1.false ∙ sym (and_false_l _ (leb s.taken s.count) (sym c.before.count-fits.ensures ∙ c.if1.false))
 
 pub is-open-spec : {M : Type 1} → statement M
-is-open-spec = tie.close (tie.spec (λ c κs. search needs) returns returns-2)
+is-open-spec = tie.close (tie.spec (λ c κs. search rules) returns returns-2)

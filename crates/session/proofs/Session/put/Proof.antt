@@ -1,5 +1,5 @@
 -- With the item where the refusal's number is 0, else as it was (Stepping).
-use Rattle.fips197.proofs.Kit.{◌∙◌, needs}
+use Rattle.fips197.proofs.Kit.{◌∙◌, rules}
 use Rattle.session.specs.Session.{put_refusal, with_item, put_gives}
 use Rattle.files.proofs.Passing.{given, kept}
 use Rattle.session.proofs.Stepping.{put_tells}
@@ -31,4 +31,4 @@ returns-2 c =
     (q.put-refusal.ensures, c.with_item.ensures ∙ given _ (put_refusal s i) q.put-refusal.ensures (with_item s i) s c.before.if1.false)
 
 pub put_spec : {M : Type 1} → statement M
-put_spec = tie.close (tie.spec (λ c κs. search needs) returns with-item-requires returns-2)
+put_spec = tie.close (tie.spec (λ c κs. search rules) returns with-item-requires returns-2)

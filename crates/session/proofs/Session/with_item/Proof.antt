@@ -1,5 +1,5 @@
 -- The sums take the item's hash (Stepping).
-use Rattle.fips197.proofs.Kit.{◌≡◌, ◌+◌, length, needs}
+use Rattle.fips197.proofs.Kit.{◌≡◌, ◌+◌, length, rules}
 use Rattle.files.specs.TagFile.{stamp_for}
 use Rattle.tagging.proofs.Summing.{added_ready}
 use Rattle.session.proofs.Carried.{sums_fit, added_is}
@@ -8,13 +8,13 @@ use Rattle.session.proofs.Session.with_item.Statement.{statement}
 use Rattle.session.proofs.Session.with_item.Tie as tie
 
 sums-long : (c : tie.After-prepare) → length c.before.before.before.before.before.before.before.before.args.self.sums ≡ 1312
-sums-long c = search needs
+sums-long c = search rules
 
 add-item-requires : tie.Need-add-item-requires
 add-item-requires c κs =
     let p = c.before.before.before.before in
     let d = p.before.before.before.before.before.before.before.before in
-    (search needs, (d.requires.0, (sums_fit d.args.self.code d.args.self.sums (sums-long p), (d.requires.1.1, search needs))))
+    (search rules, (d.requires.0, (sums_fit d.args.self.code d.args.self.sums (sums-long p), (d.requires.1.1, search rules))))
 
 returns : tie.Need-returns
 returns c =
@@ -29,5 +29,5 @@ returns c =
 pub with-item-spec : {M : Type 1} → statement M
 with-item-spec =
     tie.close
-    (tie.spec (λ c κs. search needs) (λ c. search needs) (λ c κs. search needs) (λ c κs. search needs) (λ c. search needs)
-    (λ c. search needs) add-item-requires returns)
+    (tie.spec (λ c κs. search rules) (λ c. search rules) (λ c κs. search rules) (λ c κs. search rules) (λ c. search rules)
+    (λ c. search rules) add-item-requires returns)

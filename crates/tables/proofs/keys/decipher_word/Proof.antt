@@ -1,5 +1,5 @@
 -- By where the word stands (KeyLaws).
-use Rattle.fips197.proofs.Kit.{sym, ap, ◌∙◌, arith, needs}
+use Rattle.fips197.proofs.Kit.{sym, ap, ◌∙◌, arith, rules}
 use Rattle.fips197.specs.Aes.{inv_mixed}
 use Rattle.fips197.specs.Words.{column}
 use Rattle.tables.proofs.KeyLaws.{decipher-inside, decipher_below, decipher-above}
@@ -23,4 +23,4 @@ returns-3 c =
     ∙ sym (decipher-inside d.w.now d.i (omega arith) (omega arith))
 
 pub decipher-word-spec : {M : Type 1} → statement M
-decipher-word-spec = tie.close (tie.spec (λ c κs. search needs) returns returns-2 (λ c κs. search needs) returns-3)
+decipher-word-spec = tie.close (tie.spec (λ c κs. search rules) returns returns-2 (λ c κs. search rules) returns-3)

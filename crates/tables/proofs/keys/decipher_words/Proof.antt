@@ -1,5 +1,5 @@
 -- Each turn writes a word (KeyLaws).
-use Rattle.fips197.proofs.Kit.{◌≡◌, refl, ◌∙◌, ℕ, ◌-◌, ◌≤◌, ◌<◌, arith, length, get_or, length-set, needs}
+use Rattle.fips197.proofs.Kit.{◌≡◌, refl, ◌∙◌, ℕ, ◌-◌, ◌≤◌, ◌<◌, arith, length, get_or, length-set, rules}
 use Rattle.fips197.specs.Words.{bytes_of}
 use Rattle.tables.specs.RoundTables.{decipher_word}
 use Rattle.tables.proofs.KeyLaws.{words_more}
@@ -27,5 +27,5 @@ returns c = record { entry = λ j l. c.before.loop.invariant.2 j (omega arith) }
 pub decipher-words-spec : {M : Type 1} → statement M
 decipher-words-spec =
     tie.close
-    (tie.spec invariant-loop decreases-loop loop-holds (λ c κs. search needs) (λ c. search needs) (λ c. search needs) (λ c. search needs)
-    (λ c. search needs) loop-again returns)
+    (tie.spec invariant-loop decreases-loop loop-holds (λ c κs. search rules) (λ c. search rules) (λ c. search rules) (λ c. search rules)
+    (λ c. search rules) loop-again returns)

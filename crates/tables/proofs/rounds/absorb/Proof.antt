@@ -1,5 +1,5 @@
 -- Each turn takes a block into the chain (blocks' Chaining).
-use Rattle.fips197.proofs.Kit.{◌≡◌, refl, sym, ap, ap₂, ◌∙◌, List, ℕ, ◌*◌, ◌/◌, ◌-◌, ◌≤◌, arith, length, take, drop, needs}
+use Rattle.fips197.proofs.Kit.{◌≡◌, refl, sym, ap, ap₂, ◌∙◌, List, ℕ, ◌*◌, ◌/◌, ◌-◌, ◌≤◌, arith, length, take, drop, rules}
 use Rattle.blocks.specs.Block.{◌⊕◌}
 use Rattle.blocks.specs.Chain.{chain}
 use Rattle.blocks.proofs.Chaining.{chain_next}
@@ -45,5 +45,5 @@ returns c =
 pub absorb-spec : {M : Type 1} → statement M
 absorb-spec =
     tie.close
-    (tie.spec invariant-loop decreases-loop (λ c κs. search needs) loop-holds (λ c. omega (arith, c.before.loop.invariant.0, c.loop-test.true)) load-at-requires (λ c κs. search needs)
-    (λ c κs. search needs) (λ c. search needs) (λ c. search needs) loop-again (λ c κs. search needs) returns)
+    (tie.spec invariant-loop decreases-loop (λ c κs. search rules) loop-holds (λ c. omega (arith, c.before.loop.invariant.0, c.loop-test.true)) load-at-requires (λ c κs. search rules)
+    (λ c κs. search rules) (λ c. search rules) (λ c. search rules) loop-again (λ c κs. search rules) returns)

@@ -1,5 +1,5 @@
 -- A column at a time (Joining).
-use Rattle.fips197.proofs.Kit.{◌+◌, ◌*◌, arith, needs}
+use Rattle.fips197.proofs.Kit.{◌+◌, ◌*◌, arith, rules}
 use Rattle.tables.proofs.Joining.{keyed_words}
 use Rattle.tables.proofs.rounds.add_words.Statement.{statement}
 use Rattle.tables.proofs.rounds.add_words.Tie as tie
@@ -15,6 +15,6 @@ returns c =
 pub add-words-spec : {M : Type 1} → statement M
 add-words-spec =
     tie.close
-    (tie.spec (λ c. search needs) (λ c. search needs) (λ c. search needs) (λ c. search needs) (λ c. search needs)
-    (λ c. search needs) (λ c. search needs) (λ c. search needs) (λ c. search needs) (λ c. search needs) (λ c. search needs)
-    (λ c. search needs) returns)
+    (tie.spec (λ c. search rules) (λ c. search rules) (λ c. search rules) (λ c. search rules) (λ c. search rules)
+    (λ c. search rules) (λ c. search rules) (λ c. search rules) (λ c. search rules) (λ c. search rules) (λ c. search rules)
+    (λ c. search rules) returns)

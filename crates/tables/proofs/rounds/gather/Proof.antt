@@ -1,5 +1,5 @@
 -- Four bytes through the S-box.
-use Rattle.fips197.proofs.Kit.{◌∙◌, [], ◌∷◌, needs}
+use Rattle.fips197.proofs.Kit.{◌∙◌, [], ◌∷◌, rules}
 use Rattle.tables.proofs.rounds.gather.Statement.{statement}
 use Rattle.tables.proofs.rounds.gather.Tie as tie
 
@@ -11,4 +11,4 @@ returns c =
 pub gather-spec : {M : Type 1} → statement M
 gather-spec =
     tie.close
-    (tie.spec (λ c κs. search needs) (λ c κs. search needs) (λ c κs. search needs) (λ c κs. search needs) (λ c κs. search needs) returns)
+    (tie.spec (λ c κs. search rules) (λ c κs. search rules) (λ c κs. search rules) (λ c κs. search rules) (λ c κs. search rules) returns)

@@ -1,5 +1,5 @@
 -- Each turn undoes a round: what is left to do gives what the whole gives (RoundTrip).
-use Rattle.fips197.proofs.Kit.{◌≡◌, refl, ap, ◌∙◌, List, ℕ, ◌≤◌, arith, length, needs}
+use Rattle.fips197.proofs.Kit.{◌≡◌, refl, ap, ◌∙◌, List, ℕ, ◌≤◌, arith, length, rules}
 use Rattle.fips197.specs.Block.{◌⊕◌}
 use Rattle.fips197.specs.Aes.{inv_sbox, inv_sub_bytes, inv_rounds, inv_cipher}
 use Rattle.fips197.specs.Words.{state_of}
@@ -48,6 +48,6 @@ returns c =
 pub inv-cipher-spec : {M : Type 1} → statement M
 inv-cipher-spec =
     tie.close
-    (tie.spec invariant-loop decreases-loop (λ c κs. search needs) (λ c κs. search needs) loop-holds (λ c κs. search needs)
-    (λ c κs. search needs) (λ c. search needs) (λ c. search needs) loop-again (λ c κs. search needs) (λ c κs. search needs)
-    (λ c κs. search needs) returns)
+    (tie.spec invariant-loop decreases-loop (λ c κs. search rules) (λ c κs. search rules) loop-holds (λ c κs. search rules)
+    (λ c κs. search rules) (λ c. search rules) (λ c. search rules) loop-again (λ c κs. search rules) (λ c κs. search rules)
+    (λ c κs. search rules) returns)

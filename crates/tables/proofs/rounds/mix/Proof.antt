@@ -1,5 +1,5 @@
 -- A column at a time: what the tables hold adds up to the mixed column (Joining).
-use Rattle.fips197.proofs.Kit.{◌∙◌, ◌/◌, ◌%◌, needs}
+use Rattle.fips197.proofs.Kit.{◌∙◌, ◌/◌, ◌%◌, rules}
 use Rattle.fips197.specs.Aes.{sbox, mixed, mix_columns, sub_bytes}
 use Rattle.tables.specs.RoundTables.{round_entry}
 use Rattle.tables.proofs.Joining.{spread_sum, mixed_shifted}
@@ -22,4 +22,4 @@ returns c =
 pub mix-spec : {M : Type 1} → statement M
 mix-spec =
     tie.close
-    (tie.spec (λ c κs. search needs) (λ c κs. search needs) (λ c κs. search needs) (λ c κs. search needs) returns)
+    (tie.spec (λ c κs. search rules) (λ c κs. search rules) (λ c κs. search rules) (λ c κs. search rules) returns)

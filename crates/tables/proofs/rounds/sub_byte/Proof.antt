@@ -1,5 +1,5 @@
 -- The S-box is read off the tables (Joining).
-use Rattle.fips197.proofs.Kit.{arith, needs}
+use Rattle.fips197.proofs.Kit.{arith, rules}
 use Rattle.tables.proofs.Joining.{read_sbox}
 use Rattle.tables.proofs.rounds.sub_byte.Statement.{statement}
 use Rattle.tables.proofs.rounds.sub_byte.Tie as tie
@@ -8,4 +8,4 @@ returns : tie.Need-returns
 returns c = read_sbox _ c.before.requires _ (omega arith)
 
 pub sub-byte-spec : {M : Type 1} → statement M
-sub-byte-spec = tie.close (tie.spec (λ c. search needs) (λ c. search needs) (λ c. search needs) (λ c. search needs) returns)
+sub-byte-spec = tie.close (tie.spec (λ c. search rules) (λ c. search rules) (λ c. search rules) (λ c. search rules) returns)

@@ -1,5 +1,5 @@
 -- Each turn writes a round key (fips197's Schedules).
-use Rattle.fips197.proofs.Kit.{◌-◌, arith, needs}
+use Rattle.fips197.proofs.Kit.{◌-◌, arith, rules}
 use Rattle.fips197.specs.Words.{state_of}
 use Rattle.fips197.proofs.Schedules.{Written, written_first, written_next, written_all}
 use Rattle.tables.proofs.schedule.expand.Statement.{statement}
@@ -12,7 +12,7 @@ abbrev decreases-loop : tie.decreases-loop
 decreases-loop t k₀ w₀ n₀ k w n = 10 - n
 
 loop-holds : tie.Need-loop-init invariant-loop decreases-loop
-loop-holds c = search (needs, written_first)
+loop-holds c = search (rules, written_first)
 
 loop-again : tie.Need-loop-preserved invariant-loop decreases-loop
 loop-again c =
@@ -29,5 +29,5 @@ returns c =
 pub expand-spec : {M : Type 1} → statement M
 expand-spec =
     tie.close
-    (tie.spec invariant-loop decreases-loop (λ c κs. search needs) (λ c κs. search needs) loop-holds (λ c. search needs)
-    (λ c κs. search needs) (λ c κs. search needs) (λ c κs. search needs) (λ c. search needs) loop-again returns)
+    (tie.spec invariant-loop decreases-loop (λ c κs. search rules) (λ c κs. search rules) loop-holds (λ c. search rules)
+    (λ c κs. search rules) (λ c κs. search rules) (λ c κs. search rules) (λ c. search rules) loop-again returns)

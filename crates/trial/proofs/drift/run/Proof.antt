@@ -1,5 +1,5 @@
 -- A card is altered inside the buffer, whose length stays.
-use Rattle.fips197.proofs.Kit.{◌-◌, ◌≡◌, ◌≤◌, length, needs}
+use Rattle.fips197.proofs.Kit.{◌-◌, ◌≡◌, ◌≤◌, length, rules}
 use Rattle.trial.proofs.drift.run.Statement.{statement}
 use Rattle.trial.proofs.drift.run.Tie as tie
 
@@ -12,6 +12,6 @@ decreases-loop n bytes₀ first steps i₀ bytes i = steps - i
 pub run_spec : {M : Type 1} → statement M
 run_spec =
     tie.close
-    (tie.spec invariant-loop decreases-loop (λ c. search needs) (λ c. search needs) (λ c. search needs) (λ c κs. search needs) (λ c κs. search needs)
-    (λ c. search needs) (λ c. search needs) (λ c κs. search needs) (λ c κs. search needs) (λ c. search needs) (λ c. search needs)
-    (λ c. search needs) (λ c. search needs) (λ c. search needs))
+    (tie.spec invariant-loop decreases-loop (λ c. search rules) (λ c. search rules) (λ c. search rules) (λ c κs. search rules) (λ c κs. search rules)
+    (λ c. search rules) (λ c. search rules) (λ c κs. search rules) (λ c κs. search rules) (λ c. search rules) (λ c. search rules)
+    (λ c. search rules) (λ c. search rules) (λ c. search rules))

@@ -1,5 +1,5 @@
 -- A number is written inside the buffer, whose length stays.
-use Rattle.fips197.proofs.Kit.{◌-◌, ◌≡◌, length, needs}
+use Rattle.fips197.proofs.Kit.{◌-◌, ◌≡◌, length, rules}
 use Rattle.trial.proofs.inputs.alter.Statement.{statement}
 use Rattle.trial.proofs.inputs.alter.Tie as tie
 
@@ -12,5 +12,5 @@ decreases-loop shelf₀ first a e i₀ shelf i = e - i
 pub alter-spec : {M : Type 1} → statement M
 alter-spec =
     tie.close
-    (tie.spec invariant-loop decreases-loop (λ c. search needs) (λ c. search needs) (λ c. search needs) (λ c. search needs) (λ c. search needs)
-    (λ c κs. search needs) (λ c. search needs) (λ c. search needs) (λ c. search needs) (λ c. search needs) (λ c. search needs))
+    (tie.spec invariant-loop decreases-loop (λ c. search rules) (λ c. search rules) (λ c. search rules) (λ c. search rules) (λ c. search rules)
+    (λ c κs. search rules) (λ c. search rules) (λ c. search rules) (λ c. search rules) (λ c. search rules) (λ c. search rules))

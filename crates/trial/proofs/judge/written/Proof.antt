@@ -1,5 +1,5 @@
 -- The place stays inside the buffer.
-use Rattle.fips197.proofs.Kit.{◌≤◌, length, needs}
+use Rattle.fips197.proofs.Kit.{◌≤◌, length, rules}
 use Rattle.trial.proofs.judge.written.Statement.{statement}
 use Rattle.trial.proofs.judge.written.Tie as tie
 
@@ -12,5 +12,5 @@ decreases-loop out n₀ n = n
 pub written-spec : {M : Type 1} → statement M
 written-spec =
     tie.close
-    (tie.spec invariant-loop decreases-loop (λ c. search needs) (λ c. search needs) (λ c. search needs) (λ c. search needs) (λ c. search needs)
-    (λ c. search needs) (λ c. search needs) (λ c. search needs))
+    (tie.spec invariant-loop decreases-loop (λ c. search rules) (λ c. search rules) (λ c. search rules) (λ c. search rules) (λ c. search rules)
+    (λ c. search rules) (λ c. search rules) (λ c. search rules))

@@ -1,5 +1,5 @@
 -- Each line ends inside the text.
-use Rattle.fips197.proofs.Kit.{◌+◌, ◌≤◌, ◌-◌, length, needs}
+use Rattle.fips197.proofs.Kit.{◌+◌, ◌≤◌, ◌-◌, length, rules}
 use Rattle.trial.proofs.line.run_all.Statement.{statement}
 use Rattle.trial.proofs.line.run_all.Tie as tie
 
@@ -12,5 +12,5 @@ decreases-loop text at₀ at = length text + 1 - at
 pub run-all-spec : {M : Type 1} → statement M
 run-all-spec =
     tie.close
-    (tie.spec invariant-loop decreases-loop (λ c. search needs) (λ c κs. search needs) (λ c. search needs) (λ c. search needs)
-    (λ c. search needs) (λ c κs. search needs) (λ c. search needs) (λ c. search needs) (λ c. search needs) (λ c. search needs))
+    (tie.spec invariant-loop decreases-loop (λ c. search rules) (λ c κs. search rules) (λ c. search rules) (λ c. search rules)
+    (λ c. search rules) (λ c κs. search rules) (λ c. search rules) (λ c. search rules) (λ c. search rules) (λ c. search rules))

@@ -1,5 +1,5 @@
 -- The place stays inside the line, and the length of the bytes stays.
-use Rattle.fips197.proofs.Kit.{◌≤◌, ◌-◌, ◌≡◌, length, needs}
+use Rattle.fips197.proofs.Kit.{◌≤◌, ◌-◌, ◌≡◌, length, rules}
 use Rattle.trial.proofs.line.steps.Statement.{statement}
 use Rattle.trial.proofs.line.steps.Tie as tie
 
@@ -12,5 +12,5 @@ decreases-loop line from n₀ bytes₀ at₀ n bytes at = length line - at
 pub steps-spec : {M : Type 1} → statement M
 steps-spec =
     tie.close
-    (tie.spec invariant-loop decreases-loop (λ c. search needs) (λ c κs. search needs) (λ c. search needs) (λ c. search needs)
-    (λ c. search needs) (λ c. search needs))
+    (tie.spec invariant-loop decreases-loop (λ c. search rules) (λ c κs. search rules) (λ c. search rules) (λ c. search rules)
+    (λ c. search rules) (λ c. search rules))

@@ -1,5 +1,5 @@
 -- No more cards are put than asked for.
-use Rattle.fips197.proofs.Kit.{◌≤◌, ◌-◌, needs}
+use Rattle.fips197.proofs.Kit.{◌≤◌, ◌-◌, rules}
 use Rattle.trial.proofs.sessions.put_cards.Statement.{statement}
 use Rattle.trial.proofs.sessions.put_cards.Tie as tie
 
@@ -12,5 +12,5 @@ decreases-loop shelf k s₀ j₀ s j = k - j
 pub put-cards-spec : {M : Type 1} → statement M
 put-cards-spec =
     tie.close
-    (tie.spec invariant-loop decreases-loop (λ c. search needs) (λ c. search needs) (λ c κs. search needs) (λ c κs. search needs)
-    (λ c. search needs) (λ c. search needs) (λ c. search needs))
+    (tie.spec invariant-loop decreases-loop (λ c. search rules) (λ c. search rules) (λ c κs. search rules) (λ c κs. search rules)
+    (λ c. search rules) (λ c. search rules) (λ c. search rules))

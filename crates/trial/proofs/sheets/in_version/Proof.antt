@@ -1,5 +1,5 @@
 -- As Tag makes its file (scheme's write_tag_file); no version has a longer one.
-use Rattle.fips197.proofs.Kit.{◌≡◌, ap, List, ℕ, ◌*◌, ◌≤◌, arith, length, needs}
+use Rattle.fips197.proofs.Kit.{◌≡◌, ap, List, ℕ, ◌*◌, ◌≤◌, arith, length, rules}
 use Rattle.sizes.specs.Sizes.{family_of}
 use Rattle.sizes.proofs.Laws.{tags_few}
 use Rattle.stamp.specs.declared.Stamp.{Stamp}
@@ -46,5 +46,5 @@ write-file-requires c κs =
 pub in-version-spec : {M : Type 1} → statement M
 in-version-spec =
     tie.close
-    (tie.spec (λ c κs. search needs) (λ c κs. search needs) (λ c κs. search needs) (λ c. search needs) add-items-requires (λ c. search needs)
-    (λ c. search needs) write-file-requires (λ c. search needs))
+    (tie.spec (λ c κs. search rules) (λ c κs. search rules) (λ c κs. search rules) (λ c. search rules) add-items-requires (λ c. search rules)
+    (λ c. search rules) write-file-requires (λ c. search rules))

@@ -1,5 +1,5 @@
 -- What Tag does not refuse is taggable (checks' Checking).
-use Rattle.fips197.proofs.Kit.{now, length, needs}
+use Rattle.fips197.proofs.Kit.{now, length, rules}
 use Rattle.checks.proofs.Checking.{taggable}
 use Rattle.trial.proofs.sheets.tagged.Statement.{statement}
 use Rattle.trial.proofs.sheets.tagged.Tie as tie
@@ -13,5 +13,5 @@ in-version-requires c κs =
 pub tagged-spec : {M : Type 1} → statement M
 tagged-spec =
     tie.close
-    (tie.spec (λ c. search needs) (λ c κs. search needs) (λ c. search needs) (λ c. search needs) (λ c. search needs)
-    in-version-requires (λ c. search needs))
+    (tie.spec (λ c. search rules) (λ c κs. search rules) (λ c. search rules) (λ c. search rules) (λ c. search rules)
+    in-version-requires (λ c. search rules))

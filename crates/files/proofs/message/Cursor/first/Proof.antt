@@ -1,5 +1,5 @@
 -- The place behind no item.
-use Rattle.fips197.proofs.Kit.{refl, ap, ◌∙◌, arith, needs}
+use Rattle.fips197.proofs.Kit.{refl, ap, ◌∙◌, arith, rules}
 use Rattle.stamp.specs.Front.{version_of}
 use Rattle.stamp.proofs.Fronts.{front_low}
 use Rattle.files.specs.Message.{items_at, behind}
@@ -15,4 +15,4 @@ unfolding behind
 returns c = (c.items_at.ensures.0 ∙ ap items_at c.before.version_of.ensures, refl)
 
 pub first_spec : {M : Type 1} → statement M
-first_spec = tie.close (tie.spec version-of-requires (λ c κs. search needs) returns)
+first_spec = tie.close (tie.spec version-of-requires (λ c κs. search rules) returns)

@@ -1,5 +1,5 @@
 -- Each test settles it (Messages).
-use Rattle.fips197.proofs.Kit.{ap, ◌∙◌, ℕ, ◌+◌, arith, length, leb, needs}
+use Rattle.fips197.proofs.Kit.{ap, ◌∙◌, ℕ, ◌+◌, arith, length, leb, rules}
 use Rattle.files.specs.Message.{number16}
 use Rattle.files.proofs.Messages.{fits-not-length, fits-not-size, fits_else}
 use Rattle.files.proofs.message.Cursor.fits.Statement.{statement}
@@ -25,4 +25,4 @@ returns-3 c =
 pub fits-spec : {M : Type 1} → statement M
 fits-spec =
     tie.close
-    (tie.spec (λ c. search needs) returns (λ c κs. search needs) returns-2 (λ c. search needs) (λ c. search needs) returns-3)
+    (tie.spec (λ c. search rules) returns (λ c κs. search rules) returns-2 (λ c. search rules) (λ c. search rules) returns-3)
