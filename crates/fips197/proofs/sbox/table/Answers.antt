@@ -2,12 +2,8 @@
 use Rattle.fips197.specs.Field.{xtimes, product_by, ◌•◌, power_by, power, inverse}
 use Rattle.fips197.specs.Aes.{bit, byte_of, affine, sbox}
 use Rattle.fips197.proofs.TableRules.{sbox_table_lem, sbox_table}
-use Rattle.fips197.proofs.sbox.table.Statement.{statement}
-use Rattle.fips197.proofs.sbox.table.Tie as tie
+use Rattle.fips197.proofs.sbox.table.Goals as goal
 
-returns : tie.Need-returns
+pub returns : goal.returns
 unfolding sbox_table_lem sbox affine byte_of bit inverse power power_by ◌•◌ product_by xtimes
 returns c = sbox_table
-
-pub table-spec : {M : Type 1} → statement M
-table-spec = tie.close (tie.spec returns)

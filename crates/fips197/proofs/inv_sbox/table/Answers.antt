@@ -2,12 +2,8 @@
 use Rattle.fips197.specs.Field.{xtimes, product_by, ◌•◌, power_by, power, inverse}
 use Rattle.fips197.specs.Aes.{bit, byte_of}
 use Rattle.fips197.proofs.TableRules.{unaffine, way_back, inv_sbox_table_lem, inv_sbox_table}
-use Rattle.fips197.proofs.inv_sbox.table.Statement.{statement}
-use Rattle.fips197.proofs.inv_sbox.table.Tie as tie
+use Rattle.fips197.proofs.inv_sbox.table.Goals as goal
 
-returns : tie.Need-returns
+pub returns : goal.returns
 unfolding inv_sbox_table_lem way_back unaffine byte_of bit inverse power power_by ◌•◌ product_by xtimes
 returns c = inv_sbox_table
-
-pub table-spec : {M : Type 1} → statement M
-table-spec = tie.close (tie.spec returns)
