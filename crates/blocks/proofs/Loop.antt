@@ -20,12 +20,12 @@ part_back xs ys new a n h e =
     let none : drop (length xs - a) (drop a xs) ≡ [] = rw (← length-drop a xs) (drop-length (drop a xs)) in
     rw (e, all, none, append-nil, drop-drop) refl
 
--- with a text copied to its front
-pub part_copied : (xs ys text : List ℕ) (a : ℕ) → a + length text ≤ length xs
-    → ys ≡ take (length text) text ++ drop (length text) (take (length xs - a) (drop a xs))
-    → put_mid a (length xs - a) xs ys ≡ take a xs ++ (text ++ drop (a + length text) xs)
+-- a part that is a text's copy, as long as it
+pub part_copied : (xs ys text : List ℕ) (a : ℕ) → a + length text ≤ length xs → ys ≡ text
+    → put_mid a (a + length text - a) xs ys ≡ take a xs ++ (text ++ drop (a + length text) xs)
 part_copied xs ys text a h e =
-    part_back xs ys text a (length text) h (e ∙ ap (λ (l : List ℕ). l ++ drop (length text) (take (length xs - a) (drop a xs))) (take-length text))
+    let n : a + length text - a ≡ length text = omega arith in
+    rw (e, n, drop-drop) refl
 
 -- ---- one part put behind another, at the front of a list o: o1 has f there, and o2 x behind it
 

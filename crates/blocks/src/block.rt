@@ -101,7 +101,7 @@ pub fn put_bytes(out: &mut [u8], at: usize, text: &[u8])
     requires { at + length text.now ≤ length out.old }
     ensures { out.new ≡ take at out.old ++ (text.now ++ drop (at + length text.now) out.old) }
 {
-    bytes::copy(text, &mut out[at..]);
+    out[at..at + text.len()].copy_from_slice(text);
 }
 
 // Writes the first n blocks of s to the front of out; what is behind them stays.

@@ -1,0 +1,10 @@
+use Rattle.fips197.proofs.Kit.{◌-◌, ◌≤◌}
+use Rattle.blocks.specs.Block.{slot}
+use Rattle.blocks.proofs.Slots.{Front}
+use Rattle.blocks.proofs.block.copy_blocks.Given as goal
+
+abbrev pub invariant-loop-k : goal.invariant-loop-k
+invariant-loop-k l = (l.k ≤ l.n) × Front (slot l.s) l.initial.out l.k l.out
+
+abbrev pub decreases-loop-k : goal.decreases-loop-k
+decreases-loop-k l = l.n - l.k

@@ -1,0 +1,10 @@
+use Rattle.fips197.proofs.Kit.{◌≡◌, ◌-◌, ◌≤◌}
+use Rattle.blocks.proofs.Loop.{part}
+use Rattle.blocks.specs.Double.{double}
+use Rattle.blocks.proofs.block.double.Given as goal
+
+abbrev pub invariant-loop-i : goal.invariant-loop-i
+invariant-loop-i l = (l.i ≤ 15) × (l.r ≡ part l.i (double l.b) l.initial.r)
+
+abbrev pub decreases-loop-i : goal.decreases-loop-i
+decreases-loop-i l = 15 - l.i
