@@ -1,6 +1,8 @@
 // What bench/cipher.c measures: CMAC, AES-128 both ways over many blocks, and a key with one block, by the engine of tables and by the
 // plain one. Each writes to the front of `out` and answers 1. Where the key is not 16 bytes long or `out` has no room it answers 0, and
 // `out` is as it was.
+#![tactic(auto)]
+
 ghost use Rattle.std.specs.Prelude.{◌≤◌, length};
 
 use blocks::block::{block_at, copy_blocks, put, put_at};

@@ -1,5 +1,7 @@
 // What each call on whole messages refuses, in document 01's order: the first that applies. Each entry of a list is one function whose result
 // is that entry, and one that reads a file asks that the entries before it are none. Who checks a seal is handed the engine's tables.
+#![tactic(auto)]
+
 ghost use Rattle.std.specs.Prelude.{◌≡◌, length};
 ghost use Rattle.cipher.specs.Engine.{EngineTables};
 ghost use Rattle.files.specs.Message.{item_count, refuse3};

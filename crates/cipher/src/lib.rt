@@ -2,6 +2,8 @@
 // is asked of a caller is that the blocks lie in their slice and the tables handed over are the engine's. The definitions that the contracts
 // cite are in specs/; a crate above uses their names, the sizes and byte ranges, and the two inverse laws (proofs/Laws.antt), and nothing
 // else of AES.
+#![tactic(auto)]
+
 pub mod aes;
 pub mod cmac;
 pub mod engine;

@@ -3,14 +3,14 @@ ghost use Rattle.std.specs.Prelude.{◌≡◌, ◌&&◌, ◌+◌, ◌-◌, ◌*�
 ghost use Rattle.command.specs.Numbers.{is_digit, with_digit, parsed_number, parsed_number32};
 
 // A number that a text writes, or that it writes none: the value is 0 then.
-#[derive(Drop)]
+#[derive(Clone, Copy)]
 pub struct Parsed {
     pub ok: bool,
     pub value: u64,
 }
 
 // The same of a number that has 32 bits.
-#[derive(Drop)]
+#[derive(Clone, Copy)]
 pub struct Parsed32 {
     pub ok: bool,
     pub value: u32,

@@ -6,7 +6,7 @@ ghost use Rattle.command.specs.Packing.{placed, size_with};
 use files::Refusal;
 
 // What comes of a card: its refusal, with number 0 where there is none, and how many bytes the message has then.
-#[derive(Drop)]
+#[derive(Clone, Copy)]
 pub struct Added {
     pub refused: Refusal,
     pub size: usize,

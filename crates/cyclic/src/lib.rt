@@ -1,4 +1,6 @@
 // The row pattern of a difference list, by the check polynomial of the cyclic code that the list generates (document 02, request 2.6).
+#![tactic(auto)]
+
 ghost use Rattle.std.specs.Prelude.{◌≡◌, ◌++◌, suc, ◌+◌, ◌≤◌, ◌<◌, eqb, ltb, length, drop, set};
 ghost use Rattle.blocks.specs.Block.{if◌then◌else◌, zeros};
 ghost use Rattle.incidence.specs.Count.{indicator};
@@ -6,7 +8,7 @@ ghost use Rattle.cyclic.specs.CyclicCode.{modulus, of_list, steps_back, row_patt
 ghost use Rattle.cyclic.specs.Deriving.{pattern_answer, pattern_writes};
 
 // How many steps a pattern has, or that none was derived: the count is 0 then.
-#[derive(Drop)]
+#[derive(Clone, Copy)]
 pub struct Derived {
     pub ok: bool,
     pub count: usize,

@@ -1,5 +1,7 @@
 // What a report makes of an array of differences, the XOR of both sums of each row (000, section 3.1: naïve decoding): the rows that agree
 // clear their items, the others are counted, and the items that no row clears are named.
+#![tactic(auto)]
+
 ghost use Rattle.std.specs.Prelude.{◌≡◌, true, not, ◌&&◌, ◌++◌, ◌*◌, ◌≤◌, eqb, leb, length, drop};
 ghost use Rattle.incidence.specs.Count.{indicator, count_up_to, any_up_to};
 ghost use Rattle.blocks.specs.Block.{zeros};
@@ -16,7 +18,7 @@ use incidence::Answer;
 pub const MARKS_MOST: usize = 273;
 
 // What a report says: its answer, how many items are named, and how many rows disagree.
-#[derive(Drop)]
+#[derive(Clone, Copy)]
 pub struct Decoded {
     pub answer: Answer,
     pub named: usize,

@@ -1,5 +1,7 @@
 // The row patterns of the four planes, worked out from their difference lists and laid out as lines (document 02, request 2.6). That they are
 // the patterns in use, and that no shorter ones yield all rows, is proved in proofs/Planes.antt.
+#![tactic(auto)]
+
 ghost use Rattle.std.specs.Prelude.{◌≡◌, ◌++◌, ◌+◌, ◌≤◌, length, take, drop};
 ghost use Rattle.plane.specs.Table.{differences, plane_pattern};
 ghost use Rattle.printing.specs.Text.{labelled, over};

@@ -1,6 +1,8 @@
 // The two engines of AES-128 side by side: on a chain of blocks, and on sheets tagged by one and verified by the other, for a full shelf of short
 // cards of each plane and of the largest affine size. The library runs on the tables; the plain engine's tags are made and taken back here,
 // from and to the sums of the tagged rows that a session carries. `stdout` has what each line must say.
+#![tactic(auto)]
+
 ghost use Rattle.std.specs.Prelude.{◌+◌, ◌*◌, ◌≤◌, length};
 
 use blocks::block;

@@ -59,7 +59,7 @@ pub fn check_header(s: &[u8]) -> Refusal
 }
 
 // Where a walk over the items stands: behind so many of them.
-#[derive(Drop)]
+#[derive(Clone, Copy)]
 pub struct Cursor {
     pub at: usize,
     pub passed: usize,

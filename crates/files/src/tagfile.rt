@@ -29,7 +29,7 @@ const CODE_AND_COUNT: u8 = 3;
 const CODE_COUNT_SEAL: u8 = 19;
 
 // What a file says before its tags: its version and the message's number, its size code and the count of the message's items.
-#[derive(Drop)]
+#[derive(Clone, Copy)]
 pub struct Head {
     pub stamp: Stamp,
     pub code: u64,

@@ -10,7 +10,7 @@ use crate::sbox::lookup;
 use crate::words;
 
 // A state, a word for each column.
-#[derive(Drop)]
+#[derive(Clone, Copy)]
 pub struct Columns {
     pub a: u32,
     pub b: u32,

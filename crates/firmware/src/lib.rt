@@ -1,5 +1,7 @@
 // What the hopper firmware calls from C: Tag, Verify, Report and Replace on pointers with lengths and on numbers. include/gtm.h declares
 // them. Each packs what the call says into one number (specs/Packed.antt), and a refused call writes nothing.
+#![tactic(auto)]
+
 ghost use Rattle.std.specs.Prelude.{◌≡◌, length};
 ghost use Rattle.incidence.specs.Report.{meaning};
 ghost use Rattle.incidence.specs.declared.Answer.{Answer};

@@ -14,7 +14,7 @@ pub const TAG_FILE: usize = tagfile::MOST + 1;
 pub const CARD: usize = message::ITEM_MOST + 1;
 
 // Whether a file was read, and how many bytes at the start of the buffer are its.
-#[derive(Drop)]
+#[derive(Clone, Copy)]
 pub struct Got {
     pub ok: bool,
     pub n: usize,

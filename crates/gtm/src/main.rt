@@ -1,6 +1,8 @@
 // The command for people: packs card files into a message file, with a number or without, tags it, verifies and reports it, replaces,
 // withdraws and adds a card in its tag file, lists and fetches its cards, and lists the sizes. What it computes is proved in the crates
 // below; here it reads and writes.
+#![tactic(auto)]
+
 mod cards;
 mod codes;
 mod heads;

@@ -52,7 +52,7 @@ pub fn tag() {
 }
 
 // Which words name the old card, the new one and the output, which is the last word. 0 stands for no word: that card is empty.
-#[derive(Drop)]
+#[derive(Clone, Copy)]
 struct Change {
     old: usize,
     new: usize,

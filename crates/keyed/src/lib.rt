@@ -1,6 +1,8 @@
 // The keyed functions of the scheme (000, section 4.3: F and G): an item's hash, tags from sums and back. Callers take the engine's tables and
 // expand their keys once and hand over what comes of it; each contract says what is given for any key handed over so, and
 // proofs/KeyedLaws.antt what that is for a key.
+#![tactic(auto)]
+
 ghost use Rattle.std.specs.Prelude.{◌≡◌, ◌++◌, suc, ◌+◌, ◌*◌, ◌≤◌, length, drop};
 ghost use Rattle.blocks.specs.Block.{◌⊕◌, slot, list_of};
 ghost use Rattle.blocks.specs.Number.{big_endian};

@@ -1,4 +1,6 @@
 // Packing: a message file (document 01: shelf) built in a lent buffer, one item (card) after another.
+#![tactic(auto)]
+
 ghost use Rattle.std.specs.Prelude.{◌≡◌, [], ◌∷◌, ◌++◌, ◌+◌, ◌≤◌, ◌<◌, leb, ltb, length, take, drop};
 ghost use Rattle.stamp.specs.Front.{stamp_fits, version_of};
 ghost use Rattle.files.specs.Refusals.{unless, first};

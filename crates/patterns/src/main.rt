@@ -1,5 +1,7 @@
 // Prints the row pattern of each plane, worked out from its difference list (document 02, request 2.6). What it prints is proved in the crate
 // deriving.
+#![tactic(auto)]
+
 fn main() {
     let mut out = [0u8; 256];
     let n = deriving::print(&mut out);

@@ -1,6 +1,8 @@
 // The plain engine: AES-128 (FIPS 197), each step of a round computed as the standard has it, four bytes at a time, with no table but
 // the S-box and its inverse. A caller with one block uses `encipher` and `decipher`. A caller with many takes the table and expands the key
 // once, with `schedule::expand`, and hands both to `rounds::cipher`, or the expanded key to `encipher_with` and `decipher_with`.
+#![tactic(auto)]
+
 ghost use Rattle.std.specs.Prelude.{◌≡◌, List, ℕ};
 ghost use Rattle.fips197.specs.Block.{Block};
 ghost use Rattle.fips197.specs.Aes.{cipher, inv_cipher, encipher, decipher};

@@ -1,4 +1,6 @@
 // Arithmetic of polynomials over two elements, a byte a coefficient: sums, the greatest common divisor and the quotient (document 02, request 2.6).
+#![tactic(auto)]
+
 ghost use Rattle.std.specs.Prelude.{◌≡◌, ℕ, suc, ◌≤◌, length};
 ghost use Rattle.blocks.specs.Block.{◌⊕◌, zeros};
 ghost use Rattle.polynomials.specs.Polynomial.{poly_size, raised, gcd_in, gcd, quotient_in, quotient};

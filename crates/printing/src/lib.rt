@@ -1,5 +1,7 @@
 // What the programs print, put into a lent buffer: each function puts its text at a place and gives the place behind it. Lines ask for as much
 // room as they can ever take.
+#![tactic(auto)]
+
 ghost use Rattle.std.specs.Prelude.{◌≡◌, ◌++◌, ◌+◌, ◌*◌, ◌≤◌, length};
 ghost use Rattle.printing.specs.Text.{decimal, over};
 ghost use Rattle.printing.specs.Lines.{limits_line, answer_word, answer_line, card_part, card_line, card_lines, report_lines, refused_line};

@@ -1,5 +1,7 @@
 // The report program (document 01, 'Bench cards'): tags the first message read and prints the report on the second. What it prints is
 // proved in the crate reporting; here it is read and written. A byte more than the 65,536 that are readable is read, and no more.
+#![tactic(auto)]
+
 fn main() {
     let mut input = [0u8; 65537];
     let n = io::read_full(0, &mut input);

@@ -1,4 +1,6 @@
 // The report program of document 01's bench cards, without its reading and writing: from the bytes read to the bytes printed.
+#![tactic(auto)]
+
 ghost use Rattle.std.specs.Prelude.{◌≡◌, ◌++◌, ◌≤◌, length, take, drop};
 ghost use Rattle.printing.specs.Text.{over};
 ghost use Rattle.reporting.specs.Printed.{readable, report_text, tag_text, printed};

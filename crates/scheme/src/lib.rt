@@ -1,5 +1,7 @@
 // The calls of document 01 on whole messages: Tag, Verify, Report and Replace (000, section 4.3). Any arguments, of any length and value:
 // each call does its work or refuses by number, and a refused call leaves the buffer that it was lent as it was.
+#![tactic(auto)]
+
 ghost use Rattle.std.specs.Prelude.{◌≡◌, ◌++◌, ◌*◌, ◌≤◌, length, drop};
 ghost use Rattle.blocks.specs.Block.{same};
 ghost use Rattle.cipher.specs.Engine.{EngineTables};
@@ -64,7 +66,7 @@ fn stamp_in(version: u16, s: &[u8]) -> Stamp
 }
 
 // What Verify says: its refusal, with number 0 where there is none, and yes or no.
-#[derive(Drop)]
+#[derive(Clone, Copy)]
 pub struct Verified {
     pub refused: Refusal,
     pub yes: bool,
@@ -162,7 +164,7 @@ pub fn replace(keys: &[u8], file: &[u8], j: u64, old: &[u8], new: &[u8], out: &m
 }
 
 // What Report says: its refusal, with number 0 where there is none, its answer, how many items it named, and how many rows disagree.
-#[derive(Drop)]
+#[derive(Clone, Copy)]
 pub struct Reported {
     pub refused: Refusal,
     pub answer: Answer,

@@ -1,5 +1,7 @@
 // Sessions (document 01): a message tagged item by item, where it is never whole in memory. Each step takes the session and gives back
 // the next; nothing is held anywhere else.
+#![tactic(auto)]
+
 ghost use Rattle.std.specs.Prelude.{◌≡◌, true, [], ◌∷◌, ◌≤◌, ◌<◌, length};
 ghost use Rattle.sizes.specs.Sizes.{known};
 ghost use Rattle.files.specs.Refusals.{first};

@@ -5,6 +5,8 @@
 // rows are counted against the sheet of the first shelf or of another. Sessions that do not add the last places close with the sheet of the
 // shelf in which these are vacant. `stdout` has what is right, counted from document 01's difference lists, and for the affine sizes from
 // the lines and points of document 02, 2.7. Last, the session whose cards are too long for one shelf.
+#![tactic(auto)]
+
 ghost use Rattle.std.specs.Prelude.{◌≤◌, length};
 
 use trial::inputs::KEYS;

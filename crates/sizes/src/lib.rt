@@ -1,6 +1,8 @@
 // The size codes: the one place that names them. What a code's family has, as numbers and lists; the crates above call nothing else of
 // it. No call has a premise, and each contract is stated outright for every code and number. For a code that is none, or a number out of
 // range, `known` answers false and the others 0, and nothing is written.
+#![tactic(auto)]
+
 ghost use Rattle.std.specs.Prelude.{◌≡◌, ◌++◌, ◌/◌, ◌%◌, length, drop};
 ghost use Rattle.incidence.specs.Family.{items_of, tags_of};
 ghost use Rattle.sizes.specs.Sizes.{affine_code, known, family_of};

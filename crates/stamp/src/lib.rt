@@ -1,4 +1,6 @@
 // What both files begin with: three letters, a version and the number of the shelf, which version 1 has no bytes for.
+#![tactic(auto)]
+
 ghost use Rattle.std.specs.Prelude.{◌≡◌, ◌++◌, ◌+◌, ◌≤◌, length, take, drop};
 ghost use Rattle.blocks.specs.Number.{number, big_endian};
 ghost use Rattle.stamp.specs.Front.{front, front_size, version_of, stamp_of, begins_as};
@@ -13,7 +15,7 @@ const NUMBER_AT: usize = 5;
 const BEHIND_NUMBER: usize = 9;
 
 // The version of a file and the number of its shelf.
-#[derive(Drop)]
+#[derive(Clone, Copy)]
 pub struct Stamp {
     pub version: u16,
     pub number: u32,

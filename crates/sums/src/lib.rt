@@ -1,4 +1,6 @@
 // Arrays of sums: an item's value added to the sums of its tags, by a walk over them, and the sums of all rows had from those of the tags.
+#![tactic(auto)]
+
 ghost use Rattle.std.specs.Prelude.{◌≡◌, true, ◌*◌, ◌≤◌, length};
 ghost use Rattle.incidence.specs.Sum.{sum_of, expanded};
 ghost use Rattle.sizes.specs.Sizes.{known, family_of};

@@ -1,6 +1,8 @@
 // AES-128 by round tables, the second engine (document 02, request 2.8): a look-up for each byte joins SubBytes and MixColumns. Its calls
 // have the contracts of the plain engine's, so that for every key and block each gives what the other gives. A caller with many blocks
 // takes the tables once and calls `schedule::expand` and `rounds::absorb`.
+#![tactic(auto)]
+
 ghost use Rattle.std.specs.Prelude.{◌≡◌};
 ghost use Rattle.fips197.specs.Aes.{cipher, inv_cipher};
 

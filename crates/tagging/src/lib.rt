@@ -1,5 +1,7 @@
 // Tag's rule (000, section 4.3): the items' hashes added to the sums of their rows, and a tag file written from sums. Sessions and the
 // calls on whole messages rest on these.
+#![tactic(auto)]
+
 ghost use Rattle.std.specs.Prelude.{◌≡◌, true, ◌++◌, ◌*◌, ◌≤◌, length, drop};
 ghost use Rattle.blocks.specs.Block.{◌⊕◌};
 ghost use Rattle.cipher.specs.Cmac.{mac_with};
@@ -23,7 +25,7 @@ use files::{message, tagfile};
 use stamp::Stamp;
 
 // The three keys (document 01: card key, tag key, seal key).
-#[derive(Drop)]
+#[derive(Clone, Copy)]
 pub struct Keys {
     pub item: [u8; 16],
     pub tag: [u8; 16],

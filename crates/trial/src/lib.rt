@@ -1,4 +1,6 @@
 // Trials of the calls: a line names a call and what it is given, and what comes out is said behind it.
+#![tactic(auto)]
+
 pub mod calls;
 mod drift;
 pub mod given;

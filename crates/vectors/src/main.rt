@@ -1,6 +1,8 @@
 // Runs the examples of FIPS 197, RFC 4493 and document 01 and prints what comes out, a line each. What the standards say comes out
 // is typed in from them; a line whose result differs says WRONG, and what was expected. The cipher layer, which computes by the tables,
 // runs them all; the plain engine runs those of AES-128.
+#![tactic(auto)]
+
 ghost use Rattle.std.specs.Prelude.{◌≤◌, length};
 
 use blocks::block;
