@@ -5,12 +5,8 @@ use Rattle.fips197.specs.Aes.{bit, byte_of, inv_sbox}
 use Rattle.fips197.proofs.TableRules.{unaffine, way_back, inv_sbox_table_lem, inv_sbox_table, inv_sbox_lt}
 use Rattle.tables.specs.RoundTables.{inv_spread, down, inv_round_entry}
 use Rattle.tables.proofs.TableRules.{is_entry, tables_rule, inv_spread-bytes}
-use Rattle.tables.proofs.inv_round_tables.table.Statement.{statement}
-use Rattle.tables.proofs.inv_round_tables.table.Tie as tie
+use Rattle.tables.proofs.inv_round_tables.table.Goals as goal
 
-returns : tie.Need-returns
+pub returns : goal.returns
 unfolding inv_round_entry is_entry down inv_spread ◌•◌ product_by xtimes inv_sbox_table_lem way_back unaffine byte_of bit inverse power power_by
 returns c = tables_rule inv_spread inv_sbox inv_sbox_table_lem _ inv_spread-bytes inv_sbox_lt inv_sbox_table refl tt
-
-pub table-spec : {M : Type 1} → statement M
-table-spec = tie.close (tie.spec returns)

@@ -5,12 +5,8 @@ use Rattle.fips197.specs.Aes.{bit, byte_of, affine, sbox}
 use Rattle.fips197.proofs.TableRules.{sbox_table_lem, sbox_table, sbox_lt}
 use Rattle.tables.specs.RoundTables.{spread, down, round_entry}
 use Rattle.tables.proofs.TableRules.{is_entry, tables_rule, spread-bytes}
-use Rattle.tables.proofs.round_tables.table.Statement.{statement}
-use Rattle.tables.proofs.round_tables.table.Tie as tie
+use Rattle.tables.proofs.round_tables.table.Goals as goal
 
-returns : tie.Need-returns
+pub returns : goal.returns
 unfolding round_entry is_entry down spread sbox_table_lem sbox affine byte_of bit inverse power power_by ◌•◌ product_by xtimes
 returns c = tables_rule spread sbox sbox_table_lem _ spread-bytes sbox_lt sbox_table refl tt
-
-pub table-spec : {M : Type 1} → statement M
-table-spec = tie.close (tie.spec returns)
