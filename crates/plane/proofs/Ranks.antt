@@ -195,9 +195,13 @@ count_down g a zero = refl
 count_down g a (suc n) =
     let x : a + suc (suc n) ≡ suc a + suc n = omega arith in
     let y : suc a + suc n - suc n ≡ a + 1 = omega arith in
+    let f : count_up_to (λ i. g (a + suc (suc n) - i)) (suc n) ≡ count_up_to (λ i. g (suc a + suc n - i)) n + indicator (g (suc a + suc n - suc n))
+    = ap (λ (m : ℕ). count_up_to (λ i. g (m - i)) (suc n)) x in
     let z : count_up_to (λ k. g (a + suc k)) n ≡ count_up_to (λ k. g (suc a + k)) n =
     count_ext (λ k. g (a + suc k)) (λ k. g (suc a + k)) n (λ k l u. let w : a + suc k ≡ suc a + k = omega arith in ap g w) in
-    rw (x, y) (omega (arith, count_down g (suc a) n, count-first (λ k. g (a + k)) n))
+    f
+    ∙ ap (λ (m : ℕ). count_up_to (λ i. g (suc a + suc n - i)) n + indicator (g m)) y
+    ∙ omega (arith, count_down g (suc a) n, count-first (λ k. g (a + k)) n)
 
 pub count-back : (g : ℕ → Bool) (n : ℕ) → count_up_to (λ i. g (n + 1 - i)) n ≡ count_up_to g n
 count-back g n = rw (add-one n) (simp zero-add at (count_down g 0 n))
