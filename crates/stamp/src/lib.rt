@@ -46,7 +46,7 @@ pub fn begins_as(s: &[u8], letters: &[u8], newest: u16, rest: u8) -> bool
     if s.len() < NUMBER_AT {
         return false;
     }
-    if !check::same(&s[0..VERSION_AT], letters) {
+    if &s[0..VERSION_AT] != letters {
         return false;
     }
     let version = version_of(s);

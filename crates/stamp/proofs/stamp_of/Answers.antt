@@ -1,0 +1,33 @@
+-- Both as they stand; version 1 has no bytes for a number.
+use Rattle.fips197.proofs.Kit.{sym, ap, ◌∙◌, ℕ, arith, take, drop}
+use Rattle.blocks.specs.Number.{number_of, number}
+use Rattle.stamp.specs.Front.{front_size, version_of, stamp_of}
+use Rattle.stamp.proofs.Fronts.{size-first, size_later, front_low}
+use Rattle.stamp.proofs.stamp_of.Goals as goal
+
+pub returns-then-version-eq1 : goal.returns-then-version-eq1
+unfolding stamp_of number number_of
+returns-then-version-eq1 c =
+    let s = c.args.s.now in
+    let v = c.version_of-version.ensures in
+    let z = size-first _ (sym v ∙ c.if-version-eq1.true) in
+    λ i. record { version = v i; number = number (take (sym z i) (drop 5 s)) }
+
+pub number_behind-requires : goal.number_behind-requires
+unfolding front_size
+number_behind-requires c =
+    let d = c in
+    let z = size_later _ (λ e. c.if-version-eq1.false (c.version_of-version.ensures ∙ e)) in
+    omega (arith, d.requires)
+
+pub returns : goal.returns
+unfolding stamp_of
+returns c =
+    let d = c in
+    let s = d.args.s.now in
+    let v = c.version_of-version.ensures in
+    let z = size_later _ (λ e. c.if-version-eq1.false (v ∙ e)) in
+    λ i. record { version = v i; number = (c.number_behind.ensures ∙ ap (λ (k : ℕ). number (take k (drop 5 s))) (sym z)) i }
+
+pub version_of-version-requires : goal.version_of-version-requires
+version_of-version-requires c = omega (arith, c.requires, front_low (version_of c.args.s.now))
