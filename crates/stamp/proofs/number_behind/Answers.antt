@@ -5,4 +5,4 @@ use Rattle.stamp.proofs.Fronts.{four_at}
 use Rattle.stamp.proofs.number_behind.Goals as goal
 
 pub returns : goal.returns
-returns c = let d = c in c.from_be32.ensures ∙ ap number (four_at d.args.s.now 5 (omega arith))
+returns c = c.from_be32.ensures ∙ ap number (four_at c.args.s.now 5 (omega arith))

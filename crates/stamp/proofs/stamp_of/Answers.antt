@@ -9,25 +9,21 @@ pub returns-then-version-eq1 : goal.returns-then-version-eq1
 unfolding stamp_of number number_of
 returns-then-version-eq1 c =
     let s = c.args.s.now in
-    let v = c.version_of-version.ensures in
-    let z = size-first _ (sym v ∙ c.if-version-eq1.true) in
-    λ i. record { version = v i; number = number (take (sym z i) (drop 5 s)) }
+    let z = size-first _ (sym c.version_of-version.ensures ∙ c.if-version-eq1.true) in
+    λ i. record { version = c.version_of-version.ensures i; number = number (take (sym z i) (drop 5 s)) }
 
 pub number_behind-requires : goal.number_behind-requires
 unfolding front_size
 number_behind-requires c =
-    let d = c in
     let z = size_later _ (λ e. c.if-version-eq1.false (c.version_of-version.ensures ∙ e)) in
-    omega (arith, d.requires)
+    omega (arith, c.requires)
 
 pub returns : goal.returns
 unfolding stamp_of
 returns c =
-    let d = c in
-    let s = d.args.s.now in
-    let v = c.version_of-version.ensures in
-    let z = size_later _ (λ e. c.if-version-eq1.false (v ∙ e)) in
-    λ i. record { version = v i; number = (c.number_behind.ensures ∙ ap (λ (k : ℕ). number (take k (drop 5 s))) (sym z)) i }
+    let s = c.args.s.now in
+    let z = size_later _ (λ e. c.if-version-eq1.false (c.version_of-version.ensures ∙ e)) in
+    λ i. record { version = c.version_of-version.ensures i; number = (c.number_behind.ensures ∙ ap (λ (k : ℕ). number (take k (drop 5 s))) (sym z)) i }
 
 pub version_of-version-requires : goal.version_of-version-requires
 version_of-version-requires c = omega (arith, c.requires, front_low (version_of c.args.s.now))

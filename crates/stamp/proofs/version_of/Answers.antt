@@ -7,4 +7,4 @@ use Rattle.stamp.proofs.version_of.Goals as goal
 
 pub returns : goal.returns
 unfolding version_of
-returns c = let d = c in c.from_be16.ensures ∙ ap number (two_at d.args.s.now 3 (omega arith))
+returns c = c.from_be16.ensures ∙ ap number (two_at c.args.s.now 3 (omega arith))
