@@ -1,6 +1,6 @@
 -- The message file: what each check of the code settles, and where the items of a file that is not refused lie.
 use denote.Ref.{Bor}
-use Rattle.fips197.proofs.Kit.{◌≡◌, refl, sym, ap, ap₂, ◌∙◌, Bool, true, false, ◌&&◌, ◌⊎◌, inl, inr, List, [], ◌∷◌, ℕ, zero, suc, ◌+◌, ◌-◌, ◌≤◌, ◌<◌, not-suc-le-zero, le_of_suc-le-suc, eq-or-lt_of_le, add-one, arith, eqb, leb, length, take, drop, RefT, now, ptr, leb-true, le-leb, lt-leb, eq-eqb, ne_eqb}
+use Rattle.fips197.proofs.Kit.{◌≡◌, refl, sym, ap, ap₂, ◌∙◌, Bool, true, false, ◌&&◌, ◌⊎◌, inl, inr, List, [], ◌∷◌, ℕ, zero, suc, ◌+◌, ◌-◌, ◌≤◌, ◌<◌, not-suc-le-zero, le_of_suc-le-suc, eq-or-lt_of_le, add-one, arith, eqb, leb, length, take, drop, leb-true, le-leb, lt-leb, eq-eqb, ne_eqb}
 use Rattle.incidence.specs.Count.{inside}
 use Rattle.stamp.specs.Front.{version_of, begins_as}
 use Rattle.stamp.proofs.Fronts.{begins_as_so, begins_as_yes}
@@ -191,16 +191,16 @@ fetchable s j r e h =
     }
 
 -- what Fetch gives
-module _ (s r : Bor (List ℕ)) (j : ℕ) (q : Refusal) (e : q ≡ fetch_refusal (now s) j) where
-  pub fetched : q.number ≡ 0 → (at n : ℕ) → at ≡ behind (now s) (j - 1) → n ≡ number16 (now s) at
-      → now r ≡ take (at + 2 + n - (at + 2)) (drop (at + 2) (now s)) → (ptr r).0 ≡ (ptr s).0 → (ptr r).1 ≡ (ptr s).1 + (at + 2)
-      → PartOf s (fetch_start (now s) j) (fetch_size (now s) j) r
+module _ (s r : Bor (List ℕ)) (j : ℕ) (q : Refusal) (e : q ≡ fetch_refusal s.now j) where
+  pub fetched : q.number ≡ 0 → (at n : ℕ) → at ≡ behind s.now (j - 1) → n ≡ number16 s.now at
+      → r.now ≡ take (at + 2 + n - (at + 2)) (drop (at + 2) s.now) → r.ref_ptr.0 ≡ s.ref_ptr.0 → r.ref_ptr.1 ≡ s.ref_ptr.1 + (at + 2)
+      → PartOf s (fetch_start s.now j) (fetch_size s.now j) r
   unfolding fetch_start fetch_size item_start item_size
   fetched h at n p m b k o =
       let d : at + 2 + n - (at + 2) ≡ n = omega arith in
       simp (← e, eq-eqb _ _ h, ← p, ← m) record { bytes = rw d at b; block = k; offset = o }
 
-  pub unfetched : (q.number ≡ 0 → ⊥) → now r ≡ take 0 (now s) → ptr r ≡ ptr s → PartOf s (fetch_start (now s) j) (fetch_size (now s) j) r
+  pub unfetched : (q.number ≡ 0 → ⊥) → r.now ≡ take 0 s.now → r.ref_ptr ≡ s.ref_ptr → PartOf s (fetch_start s.now j) (fetch_size s.now j) r
   unfolding fetch_start fetch_size
   unfetched h b k =
       simp (← e, ne_eqb _ _ h) record { bytes = b; block = ap (λ (x : ℕ × ℕ). x.0) k; offset = ap (λ (x : ℕ × ℕ). x.1) k ∙ omega arith }
