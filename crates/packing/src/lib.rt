@@ -18,7 +18,7 @@ fn put(out: &mut [u8], at: usize, text: &[u8])
     requires { at + length text.now ≤ length out.old }
     ensures { out.new ≡ take at out.old ++ (text.now ++ drop (at + length text.now) out.old) }
 {
-    bytes::copy(text, &mut out[at..]);
+    out[at..at + text.len()].copy_from_slice(text);
 }
 
 // Whether there is such a version, and whether it has bytes for the number.

@@ -15,7 +15,7 @@ pub fn put(out: &mut [u8], at: usize, text: &[u8]) -> usize
     ensures written { out.new ≡ over at text.now out.old }
     ensures behind { result ≡ at + length text.now }
 {
-    bytes::copy(text, &mut out[at..]);
+    out[at..at + text.len()].copy_from_slice(text);
     at + text.len()
 }
 

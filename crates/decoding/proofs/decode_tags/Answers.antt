@@ -1,0 +1,50 @@
+-- Every row agrees, or the rows are filled in and decoded (Agreeing, Marks).
+use Rattle.fips197.proofs.Kit.{sym, ap, ◌∙◌, List, ℕ, ◌++◌, arith, drop}
+use Rattle.blocks.specs.Block.{all_zero}
+use Rattle.incidence.proofs.Differences.{none-disagree, answer_agreeing, none_counted}
+use Rattle.incidence.proofs.Rowwise.{number_named_ext, disagreeing_ext, answer_ext}
+use Rattle.sizes.specs.Sizes.{family_of}
+use Rattle.sizes.proofs.Laws.{lawful, tag_before}
+use Rattle.decoding.specs.Decoding.{agrees_from}
+use Rattle.decoding.proofs.Marks.{marks_agreeing}
+use Rattle.decoding.proofs.Agreeing.{marks_ext, filled_agree, zero_agree, tags-within}
+use Rattle.decoding.proofs.decode_tags.Goals as goal
+
+pub all_zero-requires : goal.all_zero-requires
+all_zero-requires c =
+    let F = family_of c.args.code in
+    omega (arith, c.tags.ensures, c.requires.code_in_bounds, tags-within F (lawful c.args.code c.requires.code_value) (tag_before c.args.code))
+
+pub returns-then-all_zero : goal.returns-then-all_zero
+returns-then-all_zero c =
+    let F = family_of c.args.code in
+    let L = lawful c.args.code c.requires.code_value in
+    let agrees = agrees_from F c.args.sums.now in
+    let all = zero_agree F c.args.sums.now L
+    (ap (all_zero c.args.sums.now) (sym c.tags.ensures) ∙ sym c.all_zero.ensures ∙ c.if-all_zero.true) in
+    let n = c.args.n in
+    record {
+      written = c.intact.ensures.written ∙ ap (λ (l : List ℕ). l ++ drop n c.args.marks.now) (sym (marks_agreeing F agrees all L n c.requires.n_bound.0));
+      answer = c.intact.ensures.answer ∙ sym (answer_agreeing F agrees all n);
+      named = c.intact.ensures.named ∙ sym (none_counted F agrees all L n c.requires.n_bound.0);
+      rows = c.intact.ensures.rows ∙ sym (none-disagree F agrees all);
+    }
+
+pub decode-requires : goal.decode-requires
+decode-requires c =
+    record {
+      n_bound = c.requires.n_bound;
+      code_in_bounds = omega (arith, c.fill_rows.ensures.size, c.requires.code_in_bounds);
+    }
+
+pub returns : goal.returns
+returns c =
+    let F = family_of c.args.code in
+    let n = c.args.n in
+    let same = filled_agree F c.args.sums.now _ _ c.fill_rows.ensures in
+    record {
+      written = c.decode.ensures.written ∙ ap (λ (l : List ℕ). l ++ drop n c.args.marks.now) (marks_ext F _ (agrees_from F c.args.sums.now) same n);
+      answer = c.decode.ensures.answer ∙ answer_ext F _ (agrees_from F c.args.sums.now) same n;
+      named = c.decode.ensures.named ∙ number_named_ext F _ (agrees_from F c.args.sums.now) same n;
+      rows = c.decode.ensures.rows ∙ disagreeing_ext F _ (agrees_from F c.args.sums.now) same;
+    }
