@@ -10,7 +10,7 @@ use crate::{aes, engine};
 use blocks::block;
 
 // A key made ready: its schedule and the two subkeys.
-#[derive(Drop)]
+#[derive(Clone, Copy)]
 pub struct MacKey {
     pub schedule: [u8; 176],
     pub k1: [u8; 16],
