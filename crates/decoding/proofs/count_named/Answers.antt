@@ -1,9 +1,10 @@
 -- Each turn counts one item, or not (Picking).
-use Rattle.fips197.proofs.Kit.{◌∙◌, ⊎_elim, arith}
+use Rattle.fips197.proofs.Kit.{◌∙◌, arith}
 use Rattle.incidence.proofs.Counting.{count_most}
 use Rattle.decoding.specs.Decoding.{is_marked}
 use Rattle.decoding.proofs.Picking.{counted_more, counted_same, counted_done}
 use Rattle.decoding.proofs.count_named.Goals as goal
+use Rattle.decoding.proofs.count_named.Goals.{then-marks-i-ne0, else-marks-i-ne0}
 
 pub overflow_add-found : goal.overflow_add-found
 overflow_add-found c =
@@ -13,10 +14,10 @@ pub loop-i-preserved : goal.loop-i-preserved
 loop-i-preserved c =
     let marks = c.args.marks.now in (
       omega arith,
-      ⊎_elim
-          (λ w. w.1 ∙ counted_more marks c.loop-i.i c.loop-i.found c.loop-i.invariant.1 w.0.taken)
-          (λ w. w.1 ∙ counted_same marks c.loop-i.i c.loop-i.found c.loop-i.invariant.1 w.0.left)
-          c.if-marks-i-ne0.branch,
+      elim c.if-marks-i-ne0.branch [
+          then-marks-i-ne0 w ↦ w.found-is ∙ counted_more marks c.loop-i.i c.loop-i.found c.loop-i.invariant.1 w.if-marks-i-ne0.true
+        | else-marks-i-ne0 w ↦ w.found-is ∙ counted_same marks c.loop-i.i c.loop-i.found c.loop-i.invariant.1 w.if-marks-i-ne0.false
+      ],
     )
 
 pub returns : goal.returns

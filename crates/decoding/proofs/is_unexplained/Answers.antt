@@ -7,9 +7,10 @@ use Rattle.decoding.proofs.is_unexplained.Goals as goal
 
 pub returns-then-not-agree : goal.returns-then-not-agree
 unfolding unexplained_in
-returns-then-not-agree c = ap₂ ◌&&◌ (sym c.if-not-agree.true ∙ ap not c.agree.ensures) (ap not c.holds_named.ensures)
+returns-then-not-agree c = ap₂ ◌&&◌ (ap not (sym c.if-not-agree.true ∙ c.agree.ensures)) (ap not c.holds_named.ensures)
 
 pub returns-else-not-agree : goal.returns-else-not-agree
 unfolding unexplained_in
 returns-else-not-agree c =
-    c.if-not-agree.false ∙ ap (λ (t : Bool). t && not (holds_one (family_of c.args.code) (is_marked c.args.marks.now) c.args.n c.args.i)) (sym c.if-not-agree.false ∙ ap not c.agree.ensures)
+    ap not c.if-not-agree.false
+    ∙ ap (λ (t : Bool). not t && not (holds_one (family_of c.args.code) (is_marked c.args.marks.now) c.args.n c.args.i)) (sym c.if-not-agree.false ∙ c.agree.ensures)

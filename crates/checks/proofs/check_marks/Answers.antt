@@ -1,0 +1,10 @@
+-- The count stands in a file that 3 does not refuse.
+use Rattle.fips197.proofs.Kit.{arith}
+use Rattle.files.proofs.Messages.{headed}
+use Rattle.checks.proofs.check_marks.Goals as goal
+
+pub item_count-requires : goal.item_count-requires
+item_count-requires c = omega (arith, headed _ c.requires)
+
+pub returns : goal.returns
+returns c = cc
