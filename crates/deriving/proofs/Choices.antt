@@ -8,7 +8,7 @@ use Rattle.incidence.proofs.Booleans.{not_both}
 use Rattle.incidence.proofs.Listing.{listed-length, listed_ext}
 use Rattle.incidence.proofs.Parity.{xor_turn, xor-none, xor_self, xor_same, parity-none, parity-append, parity-map, parity_swap, parity-next}
 use Rattle.deriving.specs.Shortest.{Within, xor_back, Pattern, OnlyPattern, FewestSteps, Independent}
-use Rattle.deriving.proofs.Matrices.{within_ext, listed-within, back, back-within}
+use Rattle.deriving.proofs.Matrices.{within_ext, listed-within, back, back_within}
 
 -- ---- the parity of a test over the numbers that pass another
 
@@ -107,7 +107,7 @@ module _ (m : ℕ) (on : ℕ → ℕ → Bool) (t : ℕ) (free : Independent m o
 
       none : (j : ℕ) → 1 ≤ j → j ≤ m → parity (λ a. on a j) (listed (odd rows) t) ≡ false
       none j lj uj =
-          sym (parity_odd (λ a. on a j) t rows (within_both t (back t P) (back t Q) (back-within t P p.within) (back-within t Q q.within)))
+          sym (parity_odd (λ a. on a j) t rows (within_both t (back t P) (back t Q) (back_within t P p.within) (back_within t Q q.within)))
           ∙ parity-append (λ a. on a j) (back t P) (back t Q)
           ∙ ap₂ xor (sym (p.yields (suc t) (omega arith) (omega arith) j lj uj)) (sym (q.yields (suc t) (omega arith) (omega arith) j lj uj))
           ∙ xor_self (on (suc t) j)

@@ -69,9 +69,9 @@ listed-within chosen (suc n) = go (within_more n (suc n) (omega arith) (listed c
 abbrev pub back : ℕ → List ℕ → List ℕ
 back n = map (λ a. suc n - a)
 
-pub back-within : (n : ℕ) (l : List ℕ) → Within n l → Within n (back n l)
-back-within n [] w = tt
-back-within n (a ∷ l) w = (omega (arith, w.1), omega (arith, w.0), back-within n l w.2)
+pub back_within : (n : ℕ) (l : List ℕ) → Within n l → Within n (back n l)
+back_within n [] w = tt
+back_within n (a ∷ l) w = (omega (arith, w.1), omega (arith, w.0), back_within n l w.2)
 
 back_again : (n : ℕ) (l : List ℕ) → Within n l → back n (back n l) ≡ l
 back_again n [] w = refl
@@ -105,7 +105,7 @@ module _ (m : ℕ) (on : ℕ → ℕ → Bool) (t : ℕ) (fits : t ≤ m) (no-sh
           → (t : Bool) → chosen (suc n) ≡ t → chosen i ≡ false
       go rest true e =
           absurd (fails-not m on steps (suc n)
-          (no-shorter n (omega arith) steps (back-within n (listed chosen n) (listed-within chosen n)) (suc n) (omega arith) (omega arith)) (had e))
+          (no-shorter n (omega arith) steps (back_within n (listed chosen n) (listed-within chosen n)) (suc n) (omega arith) (omega arith)) (had e))
       go rest false e = last (last_or i n b)
         where
           last : (i ≡ suc n) ⊎ (i ≤ n) → chosen i ≡ false

@@ -15,7 +15,7 @@ use Rattle.files.specs.declared.tagfile.Head.{Head}
 use Rattle.files.specs.Refusals.{none}
 use Rattle.files.specs.Message.{number16}
 use Rattle.stamp.specs.Front.{front, front_size, stamp_fits, version_of, stamp_of, begins_as}
-use Rattle.stamp.proofs.Fronts.{front_is, number_fits, front_length, letters-back, version-back, stamp_back, begins_as_so, begins_as_yes}
+use Rattle.stamp.proofs.Fronts.{front_is, number_fits, front_length, letters_back, version_back, stamp_back, begins_as_so, begins_as_yes}
 use Rattle.files.specs.TagFile.{tag_letters, newest_tag_file, header, tags_at, body, sealed, file_size, code_of, count_of, head_of, tags_in, body_of, mac_of, count_fits, refuse6, refuse20, Formed, Written}
 use Rattle.incidence.proofs.Booleans.{and_left, and_right, and_both}
 use Rattle.files.proofs.Passing.{unless_true, unless-passes, Plain, plain_unless}
@@ -112,7 +112,7 @@ module _ (key : List ℕ) (h : Head) (tags : List ℕ) (stamped : stamp_fits new
 
   file-version : version_of file ≡ v
   unfolding tag_letters
-  file-version = ap version_of file_parts ∙ version-back tag_letters h.stamp rest refl small
+  file-version = ap version_of file_parts ∙ version_back tag_letters h.stamp rest refl small
 
   pub stamp_is : stamp_of (sealed key (body h tags)) ≡ h.stamp
   unfolding tag_letters stamp_fits
@@ -163,13 +163,13 @@ module _ (key : List ℕ) (hk : length key ≡ 16) (h : Head) (tags : List ℕ) 
       ∙ ap number (take_at (big_endian 2 n) (tags ++ cmac key (body h tags)) 2 (big_endian-length 2 n))
       ∙ number-big_endian 2 n (omega arith)
 
-  pub head-back : head_of (sealed key (body h tags)) ≡ h
+  pub head_back : head_of (sealed key (body h tags)) ≡ h
   unfolding head_of
-  head-back = λ i. record { stamp = stamp_is key h tags stamped i; code = code_is key h tags stamped i; count = count_is i }
+  head_back = λ i. record { stamp = stamp_is key h tags stamped i; code = code_is key h tags stamped i; count = count_is i }
 
-  pub tags-back : tags_in (sealed key (body h tags)) ≡ tags
+  pub tags_back : tags_in (sealed key (body h tags)) ≡ tags
   unfolding tags_in sealed body file_size
-  tags-back =
+  tags_back =
       let e : length f - (tags_at w + 16) ≡ 16 * (family_of h.code).tags = omega (arith, file-length) in
       ap (λ (k : ℕ). take (length f - (tags_at k + 16)) (drop (tags_at k) f)) (file-version key h tags stamped)
       ∙ ap₂ (λ (k : ℕ) (t : List ℕ). take k t) e
@@ -182,9 +182,9 @@ module _ (key : List ℕ) (hk : length key ≡ 16) (h : Head) (tags : List ℕ) 
       let e = file-version key h tags stamped in
       let l : tags_at (version_of f) + 16 ≤ length f = omega (arith, file-length, ap tags_at e) in
       unless_true _ 6 0
-      (and_both (begins_as_yes tag_letters newest_tag_file f (tags_at (version_of f) + 16) l (ap (take 3) (file_parts key h tags stamped) ∙ letters-back tag_letters h.stamp (rest key h tags stamped) refl)
+      (and_both (begins_as_yes tag_letters newest_tag_file f (tags_at (version_of f) + 16) l (ap (take 3) (file_parts key h tags stamped) ∙ letters_back tag_letters h.stamp (rest key h tags stamped) refl)
       ∙ ap (inside newest_tag_file) e ∙ and_left (inside newest_tag_file w) _ stamped)
-      (and_both (ap₂ count_fits (code_is key h tags stamped) count_is ∙ fit) (eq-eqb (length f) (file_size (head_of f)) (file-length ∙ ap file_size (sym head-back)))))
+      (and_both (ap₂ count_fits (code_is key h tags stamped) count_is ∙ fit) (eq-eqb (length f) (file_size (head_of f)) (file-length ∙ ap file_size (sym head_back)))))
 
   file-sealed : refuse20 key f ≡ none
   unfolding refuse20 sealed mac_of body_of file_size

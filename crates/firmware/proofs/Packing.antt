@@ -23,13 +23,13 @@ use Rattle.firmware.proofs.Places.{report_number}
 -- ---- refusals
 
 module _ (r : Refusal) (small : r.number < 256) where
-  pub number-back : number_in (packed r) ≡ r.number
+  pub number_back : number_in (packed r) ≡ r.number
   unfolding number_in packed
-  number-back = omega arith
+  number_back = omega arith
 
-  pub place-back : r.place < 16777216 → place_in (packed r) ≡ r.place
+  pub place_back : r.place < 16777216 → place_in (packed r) ≡ r.place
   unfolding place_in packed
-  place-back h = omega arith
+  place_back h = omega arith
 
 -- ---- Verify and Report, done or refused
 
@@ -73,7 +73,7 @@ module _ (r : Refusal) (said : Answer) (names rows : ℕ) where
     where
       go : (t : Bool) → eqb r.number 0 ≡ t → r.number ≡ 0
       go true q = eqb-true r.number 0 q
-      go false q = sym (number-back r small) ∙ ap number_in (report_refused (eqb-false r.number 0 q)) ∙ e
+      go false q = sym (number_back r small) ∙ ap number_in (report_refused (eqb-false r.number 0 q)) ∙ e
 
   pub answer_back : r.number ≡ 0 → answer_in (packed_report r said names rows) ≡ (meaning said).ordinal
   unfolding answer_in

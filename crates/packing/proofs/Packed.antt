@@ -6,7 +6,7 @@ use Rattle.incidence.specs.Count.{inside}
 use Rattle.incidence.proofs.Booleans.{and_left, and_right}
 use Rattle.stamp.specs.declared.Stamp.{Stamp}
 use Rattle.stamp.specs.Front.{number_size, front, front_size, stamp_fits, version_of, stamp_of}
-use Rattle.stamp.proofs.Fronts.{front_length, letters-back, version-back, stamp_back}
+use Rattle.stamp.proofs.Fronts.{front_length, letters_back, version_back, stamp_back}
 use Rattle.files.specs.Refusals.{none}
 use Rattle.files.specs.Message.{number16, message_letters, newest_message, items_at, item_count, behind, item_start, item_size, item, refuse3, item_fits, refuse_items, refuse5}
 use Rattle.files.proofs.Messages.{header_right, fits_else, items_more, items-whole}
@@ -65,7 +65,7 @@ module _ (st : Stamp) where
 
   letters_are : (items : List (List ℕ)) → take 3 (message_of st items) ≡ message_letters
   unfolding message_of message_letters
-  letters_are items = letters-back message_letters st (big_endian 2 (length items) ++ fields items) refl
+  letters_are items = letters_back message_letters st (big_endian 2 (length items) ++ fields items) refl
 
   pub message_snoc : (items : List (List ℕ)) (x : List ℕ) → length (message_of st (items ++ (x ∷ []))) ≡ length (message_of st items) + 2 + length x
   message_snoc items x =
@@ -102,7 +102,7 @@ module _ (st : Stamp) (F : stamp_fits newest_message st ≡ true) where
   -- what the file says
   pub version_is : (items : List (List ℕ)) → version_of (message_of st items) ≡ st.version
   unfolding message_of message_letters
-  version_is items = version-back message_letters st (big_endian 2 (length items) ++ fields items) refl version_small
+  version_is items = version_back message_letters st (big_endian 2 (length items) ++ fields items) refl version_small
 
   pub stamp_is : (items : List (List ℕ)) → stamp_of (message_of st items) ≡ st
   unfolding message_of message_letters

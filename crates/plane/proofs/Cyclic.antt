@@ -7,7 +7,7 @@ use Rattle.incidence.proofs.Booleans.{and_left, and_right, beq_eq}
 use Rattle.incidence.proofs.Counting.{inside-low, inside-high, inside_yes, count_ext, every, every_at}
 use Rattle.plane.specs.Plane.{member, pairs, on, made}
 use Rattle.plane.specs.Walk.{above}
-use Rattle.plane.proofs.Ranks.{under, rank, not-member, not_member_top, count_members, many_under, count_rank, rank_all, count_add, count_down, count-back}
+use Rattle.plane.proofs.Ranks.{under, rank, not-member, not_member_top, count_members, many_under, count_rank, rank_all, count_add, count_down, count_back}
 
 -- every entry is from 1 to t
 abbrev pub within : ℕ → List ℕ → Bool
@@ -103,7 +103,7 @@ module _ (m t d : ℕ) (D P : List ℕ) (R : Rules m t d D P) where
   pub row-weight : (i : ℕ) → 1 ≤ i → i ≤ m → count_up_to (λ j. on m D i j) m ≡ suc d
   row-weight i l u =
       count_ext (λ j. on m D i j) (λ j. on m D (m + 1 - j) (m + 1 - i)) m (λ j a b. turned m D i j l u a b)
-      ∙ count-back (λ r. on m D r (m + 1 - i)) m
+      ∙ count_back (λ r. on m D r (m + 1 - i)) m
       ∙ column-weight (m + 1 - i) (omega arith) (omega arith)
 
   -- every nonzero remainder is a difference of two members once
@@ -153,7 +153,7 @@ module _ (m t d : ℕ) (D P : List ℕ) (R : Rules m t d D P) where
   rows_share i k li ui lk uk ne =
       count_ext (λ j. on m D i j && on m D k j) (λ j. on m D (m + 1 - j) (m + 1 - i) && on m D (m + 1 - j) (m + 1 - k)) m
       (λ j a b. ap₂ ◌&&◌ (turned m D i j li ui a b) (turned m D k j lk uk a b))
-      ∙ count-back (λ r. on m D r (m + 1 - i) && on m D r (m + 1 - k)) m
+      ∙ count_back (λ r. on m D r (m + 1 - i) && on m D r (m + 1 - k)) m
       ∙ columns_share (m + 1 - i) (m + 1 - k) (omega arith) (omega arith) (omega arith) (omega arith) (λ e. ne (omega arith))
 
   -- ---- the pattern

@@ -203,8 +203,8 @@ count_down g a (suc n) =
     ∙ ap (λ (m : ℕ). count_up_to (λ i. g (suc a + suc n - i)) n + indicator (g m)) y
     ∙ omega (arith, count_down g (suc a) n, count-first (λ k. g (a + k)) n)
 
-pub count-back : (g : ℕ → Bool) (n : ℕ) → count_up_to (λ i. g (n + 1 - i)) n ≡ count_up_to g n
-count-back g n = rw (add-one n) (simp zero-add at (count_down g 0 n))
+pub count_back : (g : ℕ → Bool) (n : ℕ) → count_up_to (λ i. g (n + 1 - i)) n ≡ count_up_to g n
+count_back g n = rw (add-one n) (simp zero-add at (count_down g 0 n))
 
 -- ---- the members looked at one after the other
 

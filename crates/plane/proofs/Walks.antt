@@ -380,8 +380,8 @@ module _ (s i : ℕ) where
       pub made_row : i - e ≡ get_or ((plane s).made i) k 0
       made_row = sym (ap (λ (l : List ℕ). get_or l k 0) made_is ∙ map_at (λ k. i - k) (plane_pattern s) k h ∙ ap (λ (x : ℕ). i - x) (sym r))
 
-      pub made-back : e ≤ i
-      made-back =
+      pub made_back : e ≤ i
+      made_back =
           let R : Rules (plane_items s) (plane_tags s) (plane_limit s) (differences s) (plane_pattern s) =
           rules s (some_low s (omega (arith, past, upto))) (some_high s (omega (arith, past, upto))) in
           omega (arith, past, within-at (plane_tags s) (plane_pattern s) R.near k h)

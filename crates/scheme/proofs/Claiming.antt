@@ -38,7 +38,7 @@ use Rattle.checks.specs.Refused.{report_refusal}
 use Rattle.checks.specs.Passed.{Reportable}
 use Rattle.checks.proofs.Checking.{reportable}
 use Rattle.scheme.proofs.Unaltered as unaltered
-use Rattle.scheme.proofs.FromSums.{KeyBlocks, key_blocks}
+use Rattle.scheme.proofs.Unaltered.{KeyBlocks, key_blocks}
 
 -- ---- the marks written
 

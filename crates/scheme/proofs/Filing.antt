@@ -16,7 +16,7 @@ use Rattle.sums.specs.Adding.{sum_in, Holds, Added}
 use Rattle.tagging.specs.declared.Keys.{Keys}
 use Rattle.tagging.specs.Tagging.{keys_in, tag_sum, file_of, tag_file}
 use Rattle.tagging.proofs.Writing.{tags-length, file-same}
-use Rattle.scheme.specs.Calls.{stamp_in, tags_for, sum_tagged, tag_difference, both_added, replaced_sum}
+use Rattle.scheme.specs.Calls.{stamp_in, tags_for, sum_tagged, tag_difference, replaced_sum}
 
 -- ---- Tag
 
@@ -82,13 +82,19 @@ module _ (k K : Keys) (f : List ℕ) (h : Head) (j : ℕ) (old new z s0 s1 s2 ou
     (H : Holds (family_of (code_of f)).tags (sum_tagged k f) z s0)
     (A : Added (λ t. (family_of h.code).on ((family_of h.code).row_of_tag t) j) (family_of h.code).tags (item_hash k.item h.stamp j old) s0 s1)
     (B : Added (λ t. (family_of h.code).on ((family_of h.code).row_of_tag t) j) (family_of h.code).tags (item_hash k.item h.stamp j new) s1 s2) where
+  both : Head → ℕ → List ℕ
+  both x t =
+      if (family_of x.code).on ((family_of x.code).row_of_tag t) j
+      then (sum_tagged k f t ⊕ item_hash k.item x.stamp j old) ⊕ item_hash k.item x.stamp j new
+      else sum_tagged k f t
+
   -- the two hashes are added to the same rows
   twice : (b : Bool) (x p q : List ℕ) → (if b then (if b then x ⊕ p else x) ⊕ q else (if b then x ⊕ p else x)) ≡ (if b then (x ⊕ p) ⊕ q else x)
   twice true x p q = refl
   twice false x p q = refl
 
-  sums_both : (t : ℕ) → 1 ≤ t → t ≤ (family_of h.code).tags → sum_in s2 t ≡ both_added k h j old new (sum_tagged k f) t
-  unfolding both_added head_of
+  sums_both : (t : ℕ) → 1 ≤ t → t ≤ (family_of h.code).tags → sum_in s2 t ≡ both h t
+  unfolding both head_of
   sums_both t l u =
       let e = ap (λ (x : Head). (family_of x.code).tags) eh in
       let on = (family_of h.code).on ((family_of h.code).row_of_tag t) j in
@@ -98,12 +104,12 @@ module _ (k K : Keys) (f : List ℕ) (h : Head) (j : ℕ) (old new z s0 s1 s2 ou
       ∙ ap (λ (x : List ℕ). if on then x ⊕ new-hash else x) (A.sums t l u ∙ ap (λ (x : List ℕ). if on then x ⊕ old-hash else x) (H.sums t l (omega (arith, e))))
       ∙ twice on (sum_tagged k f t) old-hash new-hash
 
-  pub replaced-made : o ≡ file_of k h (sum_in s2) ++ drop (file_size h) out → o ≡ file_of K (head_of f) (replaced_sum K f j old new) ++ drop (file_size (head_of f)) out
-  unfolding replaced_sum
-  replaced-made e =
+  pub replaced_made : o ≡ file_of k h (sum_in s2) ++ drop (file_size h) out → o ≡ file_of K (head_of f) (replaced_sum K f j old new) ++ drop (file_size (head_of f)) out
+  unfolding replaced_sum both head_of
+  replaced_made e =
       e
-      ∙ ap (λ (x : List ℕ). x ++ drop (file_size h) out) (file-same k h (sum_in s2) (both_added k h j old new (sum_tagged k f)) sums_both)
-      ∙ ap (λ (x : Head). file_of k x (both_added k x j old new (sum_tagged k f)) ++ drop (file_size x) out) eh
+      ∙ ap (λ (x : List ℕ). x ++ drop (file_size h) out) (file-same k h (sum_in s2) (both h) sums_both)
+      ∙ ap (λ (x : Head). file_of k x (both x) ++ drop (file_size x) out) eh
       ∙ ap (λ (x : Keys). file_of x (head_of f) (replaced_sum x f j old new) ++ drop (file_size (head_of f)) out) ek
 
 -- ---- Verify

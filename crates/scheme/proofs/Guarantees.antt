@@ -21,23 +21,21 @@ use Rattle.stamp.specs.Front.{number_size, stamp_fits, version_of, stamp_of}
 use Rattle.stamp.proofs.Fronts.{number_small}
 use Rattle.files.specs.declared.Refusal.{Refusal}
 use Rattle.files.specs.Refusals.{refusal, none, unless, first}
-use Rattle.files.specs.Message.{items_at, item_count, item, item_start, item_size, refuse3, refuse5}
+use Rattle.files.specs.Message.{items_at, item_count, item, item_start, item_size, refuse3, refuse5, refuse8}
 use Rattle.files.specs.declared.tagfile.Head.{Head}
 use Rattle.files.specs.TagFile.{newest_tag_file, stamp_for, file_size, code_of, count_of, head_of, tags_in, count_fits, refuse6, refuse20}
-use Rattle.files.specs.Arguments.{refuse1, refuse7}
+use Rattle.files.specs.Arguments.{refuse1, refuse7, refuse9}
 use Rattle.files.proofs.Passing.{first_here, first_later, first-none, rest-passes, unless_true, unless_false, given}
 use Rattle.files.proofs.Accepted.{plain6, plain20}
 use Rattle.keyed.specs.Keyed.{item_hash, tag_of}
 use Rattle.tagging.specs.Tagging.{keys_in, hashes, tag_sum, file_of, tag_file, tag_head}
 use Rattle.tagging.proofs.Writing.{file-same}
 use Rattle.checks.specs.Refused.{refuse21, refuse25, tag_refusal, verify_refusal, report_refusal, replace_refusal}
-use Rattle.scheme.specs.Calls.{stamp_in, tags_for, verify_yes, both_added, replaced_item, replace_writes}
+use Rattle.scheme.specs.Calls.{stamp_in, tags_for, verify_yes, sum_tagged, replaced_sum, replaced_item, replace_writes}
 use Rattle.scheme.specs.Claim.{Unaltered, changed, marked, NoneCancels, Claim, RowClaim}
 use Rattle.checks.proofs.Checking.{taggable, reportable}
 use Rattle.tagging.proofs.Summing.{hashes-long}
-use Rattle.scheme.proofs.FromSums.{key_blocks}
-use Rattle.scheme.proofs.Unaltered.{layable, head_is, tags_are, accepted}
-use Rattle.scheme.proofs.Replacing.{replace_not_refused, replaced_of_sums}
+use Rattle.scheme.proofs.Unaltered.{key_blocks, head_is, tags_are, accepted, sums_back}
 use Rattle.scheme.proofs.Claiming.{number-says}
 
 -- ---- nothing is refused
@@ -233,36 +231,61 @@ module _ (keys : List ℕ) (b : Bytes keys) (k48 : length keys ≡ 48) (h : Head
       row_sum-same F (hashes K st items) (hashes K st (replaced_item items j new)) n i
       (λ k l u o. others_stay k (λ q. not_both (F.on i k) o (ap (F.on i) q ∙ e)))
 
-  sums_afresh : (k : ℕ) → both_added (keys_in keys) h j (items j) new (tag_sum (keys_in keys) st h.code items n) k
-      ≡ tag_sum (keys_in keys) st h.code (replaced_item items j new) n k
-  unfolding both_added tag_sum
-  sums_afresh k = let F = family_of h.code in row_afresh F (F.row_of_tag k) (F.on (F.row_of_tag k) j) refl
+  sums_replaced : (k : ℕ) → 1 ≤ k → k ≤ (family_of h.code).tags
+      → replaced_sum (keys_in keys) (tag_file (keys_in keys) h items) j (items j) new k ≡ tag_sum (keys_in keys) st h.code (replaced_item items j new) n k
+  unfolding replaced_sum tag_sum head_of
+  sums_replaced k l u =
+      let K = keys_in keys in
+      let B = key_blocks keys b k48 in
+      let F = family_of h.code in
+      let f = tag_file K h items in
+      ap (λ (x : Head). if (family_of x.code).on ((family_of x.code).row_of_tag k) j
+      then (sum_tagged K f k ⊕ item_hash K.item x.stamp j (items j)) ⊕ item_hash K.item x.stamp j new else sum_tagged K f k)
+      (head_is K B h stamped fit items bytes)
+      ∙ ap (λ (x : List ℕ). if F.on (F.row_of_tag k) j then (x ⊕ item_hash K.item st j (items j)) ⊕ item_hash K.item st j new else x) (sums_back K B h stamped fit items bytes k l u)
+      ∙ row_afresh F (F.row_of_tag k) (F.on (F.row_of_tag k) j) refl
 
   -- On an unaltered file, with the keys it was made with, Replace is not refused: whatever the old item, where both are short enough and the
   -- lent buffer has room.
   pub replace_passes : (old : List ℕ) (room : ℕ) → length old ≤ 1024 → length new ≤ 1024 → file_size h ≤ room
       → replace_refusal keys (tag_file (keys_in keys) h items) j old new room ≡ none
-  unfolding head_of
+  unfolding replace_refusal refuse1 refuse8 refuse9 refuse7 head_of
   replace_passes old room lo ln r =
       let K = keys_in keys in
       let B = key_blocks keys b k48 in
+      let f = tag_file K h items in
       let a = accepted K B h stamped fit items bytes in
       let e = head_is K B h stamped fit items bytes in
       let en = ap (λ (x : Head). x.count) e in
       let ez = ap file_size e in
-      replace_not_refused keys (tag_file K h items) k48 a.0 a.1 j low (omega arith) old new room lo ln (omega arith)
+      first_later (refuse1 (length keys)) _ (unless_true _ 1 0 (eq-eqb (length keys) 48 k48))
+      ∙ first_later (refuse6 f) _ a.0 ∙ first_later (refuse20 K.seal f) _ a.1
+      ∙ first_later (refuse8 (count_of f) j) _ (unless_true _ 8 0 (and_both (le-leb 1 j low) (le-leb j (count_of f) (omega arith))))
+      ∙ first_later (refuse9 (length old) 1) _ (unless_true _ 9 1 (le-leb (length old) 1024 lo))
+      ∙ first_later (refuse9 (length new) 2) _ (unless_true _ 9 2 (le-leb (length new) 1024 ln))
+      ∙ first-none (refuse7 (file_size (head_of f)) room) (unless_true _ 7 0 (le-leb (file_size (head_of f)) room (omega arith)))
 
   -- "On an unaltered sheet, with the keys it was made with, it equals tagging afresh when the old card is the one tagged": "tagging afresh
   -- being meant in that version".
   pub replace_afresh : (out : List ℕ) → replace_refusal keys (tag_file (keys_in keys) h items) j (items j) new (length out) ≡ none
       → replace_writes keys (tag_file (keys_in keys) h items) j (items j) new out ≡ tag_file (keys_in keys) h (replaced_item items j new) ++ drop (file_size h) out
-  unfolding tag_file
+  unfolding replace_writes tag_file
   replace_afresh out e =
       let K = keys_in keys in
       let B = key_blocks keys b k48 in
-      replaced_of_sums keys B h _ (layable K B h stamped fit items bytes) j (items j) new out
-      ∙ sym (given none (replace_refusal keys (tag_file K h items) j (items j) new (length out)) (sym e) _ _ refl)
-      ∙ ap (λ (x : List ℕ). x ++ drop (file_size h) out) (file-same K h _ _ (λ k l u. sums_afresh k))
+      let f = tag_file K h items in
+      sym (given none (replace_refusal keys f j (items j) new (length out)) (sym e) _ _ refl)
+      ∙ ap (λ (x : Head). file_of K x (replaced_sum K f j (items j) new) ++ drop (file_size x) out) (head_is K B h stamped fit items bytes)
+      ∙ ap (λ (x : List ℕ). x ++ drop (file_size h) out) (file-same K h (replaced_sum K f j (items j) new) (tag_sum K st h.code (replaced_item items j new) n) sums_replaced)
+
+-- "another old card goes unnoticed": of any two old items that are not too long, both are refused alike, or neither is
+pub old_unnoticed : (keys f : List ℕ) (j : ℕ) (old other new : List ℕ) (room : ℕ) → length old ≤ 1024 → length other ≤ 1024
+    → replace_refusal keys f j old new room ≡ replace_refusal keys f j other new room
+unfolding replace_refusal refuse9
+old_unnoticed keys f j old other new room l o =
+    ap (λ (t : Bool). first (refuse1 (length keys) ∷ refuse6 f ∷ refuse20 (keys_in keys).seal f ∷ refuse8 (count_of f) j ∷ unless t 9 1
+    ∷ refuse9 (length new) 2 ∷ refuse7 (file_size (head_of f)) room ∷ []))
+    (le-leb (length old) 1024 l ∙ sym (le-leb (length other) 1024 o))
 
 -- ---- what demand 3 rules out, of a report against the unaltered file of the old items
 

@@ -20,14 +20,13 @@ use Rattle.keyed.specs.Keyed.{vacant, item_hash, tag_of}
 use Rattle.keyed.proofs.KeyedLaws.{empty_vacant, hash_vacant}
 use Rattle.tagging.specs.declared.Keys.{Keys}
 use Rattle.tagging.specs.Tagging.{keys_in, hashes, tag_sum, tag_file}
+use Rattle.tagging.proofs.Writing.{file-length}
 use Rattle.checks.specs.Refused.{replace_refusal}
 use Rattle.scheme.specs.Calls.{replaced_item, replace_writes}
 use Rattle.scheme.specs.Claim.{changed}
-use Rattle.scheme.specs.Replacements.{Combines}
 use Rattle.tagging.proofs.Summing.{hashes-long}
-use Rattle.scheme.proofs.FromSums.{key_blocks}
-use Rattle.scheme.proofs.Unaltered.{tags_are}
-use Rattle.scheme.proofs.Guarantees.{replace_afresh}
+use Rattle.scheme.proofs.Unaltered.{KeyBlocks, key_blocks, tags_are}
+use Rattle.scheme.proofs.Guarantees.{replaced_there, replace_passes, replace_afresh}
 
 -- ---- no item
 
@@ -50,7 +49,16 @@ module _ (K : Keys) (long : length K.item ≡ 16) (st : Stamp) (items : ℕ → 
   unfolding row_sum
   end_alone F m n i l e = sum_front (F.on i) (hashes K st items) m n (hashes-long K long st items) l (λ j a b. zero_hash j (e j a b))
 
--- ---- an item withdrawn, and one added
+-- ---- items replaced
+
+-- the old item put back
+replaced_back : (items : ℕ → List ℕ) (j : ℕ) (new : List ℕ) → replaced_item (replaced_item items j new) j (items j) ≡ items
+unfolding replaced_item
+replaced_back items j new = λ x i. go i (eqb i j) refl x
+  where
+    go : (i : ℕ) (t : Bool) → eqb i j ≡ t → (if t then items j else (if t then new else items i)) ≡ items i
+    go i true e = ap items (sym (eqb-true i j e))
+    go i false e = refl
 
 -- an unaltered file of items
 module _ (keys : List ℕ) (b : Bytes keys) (k48 : length keys ≡ 48) (h : Head) (stamped : stamp_fits newest_tag_file h.stamp ≡ true)
@@ -98,19 +106,39 @@ module _ (keys : List ℕ) (b : Bytes keys) (k48 : length keys ≡ 48) (h : Head
         → replace_writes keys (tag_file (keys_in keys) h items) j old new out ≡ tag_file (keys_in keys) h (replaced_item items j new) ++ drop (file_size h) out) e
         (replace_afresh keys b k48 h stamped fit items bytes j low high new out)
 
--- Requests 2.10 and 2.5 together, of any file that was not refused: a withdrawal is undone by adding the item, an addition by withdrawing it, and
--- withdrawing one item and adding another in its place is replacing the one by the other.
-module _ (keys f : List ℕ) (j : ℕ) (item g : List ℕ) where
-  pub withdrawn_added : Combines keys f j item [] g → (out : List ℕ) → (replace_refusal keys g j [] item (length out)).number ≡ 0
-      → replace_writes keys g j [] item out ≡ f ++ drop (length f) out
-  withdrawn_added C = C.back
+    -- An item withdrawn and added again gives the old bytes.
+    pub withdrawn_added : (out again : List ℕ) → length (items j) ≤ 1024 → file_size h ≤ length out → file_size h ≤ length again
+        → replace_writes keys (take (file_size h) (replace_writes keys (tag_file (keys_in keys) h items) j (items j) [] out)) j [] (items j) again
+        ≡ tag_file (keys_in keys) h items ++ drop (file_size h) again
+    unfolding tag_file replaced_item
+    withdrawn_added out again short room room' =
+        ap (λ (f : List ℕ). replace_writes keys f j [] (items j) again)
+        (ap (take (file_size h)) (withdraws out (replace_passes keys b k48 h stamped fit items bytes j low high [] (items j) (length out) short (omega arith) room))
+        ∙ take_at (tag_file K h gone) (drop (file_size h) out) (file_size h) (file-length K h _ B.tag.long B.seal.long))
+        ∙ subst (λ (old : List ℕ). replace_writes keys (tag_file K h gone) j old (items j) again ≡ tag_file K h (replaced_item gone j (items j)) ++ drop (file_size h) again)
+        (replaced_there items j [])
+        (replace_afresh keys b k48 h stamped fit gone gone_bytes j low high (items j) again
+        (replace_passes keys b k48 h stamped fit gone gone_bytes j low high (items j) (gone j) (length again) gone_short short room'))
+        ∙ ap (λ (x : ℕ → List ℕ). tag_file K h x ++ drop (file_size h) again) (replaced_back items j [])
+      where
+        K : Keys
+        K = keys_in keys
 
-  pub added_withdrawn : Combines keys f j [] item g → (out : List ℕ) → (replace_refusal keys g j item [] (length out)).number ≡ 0
-      → replace_writes keys g j item [] out ≡ f ++ drop (length f) out
-  added_withdrawn C = C.back
+        B : KeyBlocks (keys_in keys)
+        B = key_blocks keys b k48
 
-  pub withdrawn_another : Combines keys f j item [] g → (other out : List ℕ) → replace_writes keys g j [] other out ≡ replace_writes keys f j item other out
-  withdrawn_another C = C.onward
+        gone : ℕ → List ℕ
+        gone = replaced_item items j []
+
+        gone_short : length (replaced_item items j [] j) ≤ 1024
+        gone_short = let e = ap length (replaced_there items j []) in omega arith
+
+        gone_bytes : (i : ℕ) → 1 ≤ i → i ≤ h.count → Bytes (replaced_item items j [] i)
+        gone_bytes i l u = go (eqb i j)
+          where
+            go : (t : Bool) → Bytes (if t then [] else items i)
+            go true = tt
+            go false = bytes i l u
 
 -- ---- demand 3
 

@@ -12,7 +12,6 @@ use Rattle.stamp.specs.declared.Stamp.{Stamp}
 use Rattle.stamp.specs.Front.{version_of, stamp_of}
 use Rattle.files.specs.Refusals.{passes}
 use Rattle.files.specs.Message.{item_count, item}
-use Rattle.files.specs.declared.tagfile.Head.{Head}
 use Rattle.files.specs.TagFile.{file_size, code_of, head_of, tags_in}
 use Rattle.keyed.specs.Keyed.{item_hash, tag_of, sum_of_tag}
 use Rattle.decoding.specs.Decoding.{marks_of}
@@ -86,17 +85,13 @@ report_rows keys s f out =
 
 -- ---- Replace (keys, sheet, card number, old card, new card): 1, 6, 20, 8, 9, 7
 
--- "Adds both codes to each tagged row of that card": of these sums, the one of tag k, changed, in a file that says h. An old or new item without
--- bytes is a vacant place where h's version says so: "Replace can thus withdraw a card (new length 0) or add one (old length 0)" (2.5).
-unfoldable pub both_added : Keys → Head → ℕ → List ℕ → List ℕ → (ℕ → List ℕ) → ℕ → List ℕ
-both_added keys h j old new sum k =
-    if (family_of h.code).on ((family_of h.code).row_of_tag k) j
-    then (sum k ⊕ item_hash keys.item h.stamp j old) ⊕ item_hash keys.item h.stamp j new
-    else sum k
-
--- of those that are had back from the tags of f
+-- "Adds both codes to each tagged row of that card": the sum of tag k, had back and changed. An old or new item without bytes is a vacant
+-- place where the file's version says so: "Replace can thus withdraw a card (new length 0) or add one (old length 0)" (2.5).
 unfoldable pub replaced_sum : Keys → List ℕ → ℕ → List ℕ → List ℕ → ℕ → List ℕ
-replaced_sum keys f j old new = both_added keys (head_of f) j old new (sum_tagged keys f)
+replaced_sum keys f j old new k =
+    if (family_of (code_of f)).on ((family_of (code_of f)).row_of_tag k) j
+    then (sum_tagged keys f k ⊕ item_hash keys.item (stamp_of f) j old) ⊕ item_hash keys.item (stamp_of f) j new
+    else sum_tagged keys f k
 
 -- items with the bytes of item j replaced
 unfoldable pub replaced_item : (ℕ → List ℕ) → ℕ → List ℕ → ℕ → List ℕ

@@ -88,7 +88,7 @@ fn tags_equal(t: &Tables, keys: &[u8], s: &[u8], f: &[u8]) -> bool
     tagging::add_items(t, head.code, k, stamp_in(written.version, s), s, &mut sums);
     let mut tags = [0u8; sums::TAGS_MOST];
     keyed::write_tags(t, engine::expand(t, tag_key), &sums, n, &mut tags);
-    check::same(&tags[0..end], tagfile::tags_in(f))
+    &tags[0..end] == tagfile::tags_in(f)
 }
 
 // Verify: yes when the message's tags equal the file's, else no.

@@ -16,7 +16,7 @@ use files::{Refusal, arguments, tagfile};
 use tagging::Keys;
 
 // A session: the message's number, size code, how many items it is for and has taken, the three keys, and the sums of the tags.
-#[derive(Drop)]
+#[derive(Clone, Copy)]
 pub struct Session {
     pub number: u32,
     pub code: u64,
@@ -27,7 +27,7 @@ pub struct Session {
 }
 
 // What a step gives: its refusal, with number 0 where there is none, and the next session.
-#[derive(Drop)]
+#[derive(Clone, Copy)]
 pub struct Step {
     pub refused: Refusal,
     pub session: Session,

@@ -114,12 +114,12 @@ module _ (letters : List ℕ) (st : Stamp) (rest : List ℕ) (h : length letters
   unfolding front n
   parts = simp append_assoc
 
-  pub letters-back : take 3 (front letters st ++ rest) ≡ letters
-  letters-back = ap (take 3) parts ∙ take_at letters _ 3 h
+  pub letters_back : take 3 (front letters st ++ rest) ≡ letters
+  letters_back = ap (take 3) parts ∙ take_at letters _ 3 h
 
-  pub version-back : st.version < 65536 → version_of (front letters st ++ rest) ≡ st.version
+  pub version_back : st.version < 65536 → version_of (front letters st ++ rest) ≡ st.version
   unfolding version_of
-  version-back l =
+  version_back l =
       ap (λ (t : List ℕ). number (take 2 (drop 3 t))) parts
       ∙ ap (λ (t : List ℕ). number (take 2 t)) (drop_at letters _ 3 h)
       ∙ ap number (take_at (big_endian 2 st.version) _ 2 (big_endian-length 2 st.version))
@@ -128,7 +128,7 @@ module _ (letters : List ℕ) (st : Stamp) (rest : List ℕ) (h : length letters
   pub stamp_back : st.version < 65536 → st.number < 256 ^ number_size st.version → stamp_of (front letters st ++ rest) ≡ st
   unfolding stamp_of n
   stamp_back l u =
-      let v = version-back l in
+      let v = version_back l in
       let a = big_endian-length 2 st.version in
       let five : length (letters ++ big_endian 2 st.version) ≡ 5 = simp length-append (omega arith) in
       let behind = ap (drop 5) (parts ∙ sym (append_assoc letters (big_endian 2 st.version) (n ++ rest))) ∙ drop_at (letters ++ big_endian 2 st.version) (n ++ rest) 5 five in

@@ -65,9 +65,9 @@ decipher-mixed w n h l m =
     ∙ ap inv_mix_columns (sym (round_key-words w n ∙ (λ i. w0 i ++ w1 i ++ w2 i ++ w3 i)))
 
 -- a round key added to what is mixed back is the round key added before
-pub mixed-back : (w : List ℕ) (n : ℕ) (s t : List ℕ) → length w ≡ 176 → 0 < n → n ≤ 9 → t ≡ inv_mix_columns (inv_sub_bytes (inv_shift_rows s))
+pub mixed_back : (w : List ℕ) (n : ℕ) (s t : List ℕ) → length w ≡ 176 → 0 < n → n ≤ 9 → t ≡ inv_mix_columns (inv_sub_bytes (inv_shift_rows s))
     → t ⊕ round_words (decipher_word w) n ≡ inv_mix_columns (inv_sub_bytes (inv_shift_rows s) ⊕ round_key w n)
 unfolding inv_sub_bytes
-mixed-back w n s t h l m e =
+mixed_back w n s t h l m e =
     (λ i. e i ⊕ decipher-mixed w n h l m i)
     ∙ sym (inv_mix_columns-xor (inv_sub_bytes (inv_shift_rows s)) (round_key w n) refl (round_key-length w n h (omega arith)))

@@ -28,8 +28,8 @@ file-size h at t ea et = omega arith
 pub headed_length : (h : Head) (o o1 : List ℕ) → tags_at h.stamp.version ≤ length o → o1 ≡ header h ++ drop (tags_at h.stamp.version) o → length o1 ≡ length o
 headed_length h o o1 l e = front_kept (header h) o o1 (tags_at h.stamp.version) (header-length h) l e
 
-pub back-length : (xs ys new : List ℕ) (a n : ℕ) → a + n ≤ length xs → length new ≡ n → ys ≡ take a xs ++ (new ++ drop (a + n) xs) → length ys ≡ length xs
-back-length xs ys new a n h l e = ap length e ∙ simp (length-append, length-take, length-drop) (omega arith)
+pub back_length : (xs ys new : List ℕ) (a n : ℕ) → a + n ≤ length xs → length new ≡ n → ys ≡ take a xs ++ (new ++ drop (a + n) xs) → length ys ≡ length xs
+back_length xs ys new a n h l e = ap length e ∙ simp (length-append, length-take, length-drop) (omega arith)
 
 module _ (keys : Keys) (h : Head) (at t : ℕ) (sums o o1 o2 o3 : List ℕ) (hk : length keys.tag ≡ 16) (ea : at ≡ tags_at h.stamp.version) (et : t ≡ (family_of h.code).tags)
     (e1 : o1 ≡ header h ++ drop (tags_at h.stamp.version) o)

@@ -1,7 +1,7 @@
 -- Refused, or answer and numbers (Packing).
 use Rattle.fips197.proofs.Kit.{sym, ap, ◌∙◌, ℕ, ◌+◌, ◌*◌, ◌%◌, arith, rules}
 use Rattle.firmware.specs.Packed.{number_in}
-use Rattle.firmware.proofs.Packing.{number-back, report_done, report_refused, ordinal_small}
+use Rattle.firmware.proofs.Packing.{number_back, report_done, report_refused, ordinal_small}
 use Rattle.firmware.proofs.pack_report.Statement.{statement}
 use Rattle.firmware.proofs.pack_report.Tie as tie
 
@@ -10,7 +10,7 @@ returns c =
     let d = c.before.before.before.before in
     let t = c.before.if1.true in (
       c.pack.ensures ∙ report_refused d.args.r.refused d.args.r.answer d.args.r.named d.args.r.rows t,
-      λ z. sym (number-back d.args.r.refused (omega (arith, c.before.before.struct_known.given))) ∙ ap number_in (sym c.pack.ensures) ∙ z,
+      λ z. sym (number_back d.args.r.refused (omega (arith, c.before.before.struct_known.given))) ∙ ap number_in (sym c.pack.ensures) ∙ z,
     )
 
 mul-result : tie.Need-overflow-mul-result

@@ -5,7 +5,7 @@ use Rattle.blocks.proofs.Loop.{part_back}
 use Rattle.sizes.proofs.Laws.{code_byte_lem, items_few, tags_few}
 use Rattle.keyed.specs.Keyed.{tags_by}
 use Rattle.keyed.proofs.KeyedLaws.{tags-expanded}
-use Rattle.tagging.proofs.Writing.{file-size, tags-length, headed_length, back-length, file_written}
+use Rattle.tagging.proofs.Writing.{file-size, tags-length, headed_length, back_length, file_written}
 use Rattle.tagging.proofs.write_file.Goals as goal
 
 pub put_header-requires : goal.put_header-requires
@@ -29,7 +29,7 @@ seal-requires c =
         part_back c.put_header.new.out _ tags place (16 * c.tags-n.result) (omega (arith, behind))
     (tags-expanded c.args.keys.tag _ _ _ _ _ c.expand.ensures c.write_tags.ensures) in
     let r : place + 16 * c.tags-n.result ≤ length c.put_header.new.out = omega (arith, behind) in
-    let l = back-length c.put_header.new.out _ tags place _ r (tags-length _ _ _ key-long) written in
+    let l = back_length c.put_header.new.out _ tags place _ r (tags-length _ _ _ key-long) written in
     record { engine_tables = c.requires.engine_tables; n_in_bounds = omega (arith, l, behind) }
 
 pub returns : goal.returns

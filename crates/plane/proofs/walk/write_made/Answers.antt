@@ -4,7 +4,7 @@ use Rattle.blocks.proofs.Loop.{part_turn, part_front}
 use Rattle.plane.specs.Table.{plane_pattern}
 use Rattle.plane.specs.Plane.{plane}
 use Rattle.plane.proofs.Lookup.{items-most, pattern_few}
-use Rattle.plane.proofs.Walks.{made-length, made_row, made-back}
+use Rattle.plane.proofs.Walks.{made-length, made_row, made_back}
 use Rattle.plane.proofs.walk.write_made.Goals as goal
 
 pub overflow_cast-row : goal.overflow_cast-row
@@ -16,7 +16,7 @@ overflow_sub-out c =
         omega (arith, c.loop-k-test.true, ap length c.requires.s_bound.2) in
     let entry : c.step.result ≡ get_or (plane_pattern c.args.s) c.loop-k.k 0 =
         c.step.ensures ∙ ap (λ l. get_or l c.loop-k.k 0) c.requires.s_bound.2 in
-    made-back c.args.s c.args.i c.requires.s_bound.0 c.requires.s_bound.1 place entry
+    made_back c.args.s c.args.i c.requires.s_bound.0 c.requires.s_bound.1 place entry
 
 pub offset_bounds-out-k : goal.offset_bounds-out-k
 offset_bounds-out-k c =

@@ -4,7 +4,7 @@ use Rattle.fips197.specs.Block.{◌⊕◌}
 use Rattle.fips197.specs.Aes.{inv_sbox, inv_sub_bytes, inv_rounds, inv_cipher}
 use Rattle.fips197.specs.Words.{state_of}
 use Rattle.fips197.proofs.RoundTrip.{inv_rounds-less}
-use Rattle.tables.proofs.KeyLaws.{decipher-first, decipher-last, mixed-back}
+use Rattle.tables.proofs.KeyLaws.{decipher-first, decipher-last, mixed_back}
 use Rattle.tables.proofs.rounds.inv_cipher.Goals as goal
 
 pub loop-n-init : goal.loop-n-init
@@ -17,7 +17,7 @@ loop-n-preserved c =
     let s = l.loop-n.s in (
       omega arith,
       λ w h e. inv_rounds-less w n _ _ c.loop-n-test.true
-          (c.add_words-s-in-loop-n.ensures w e ∙ mixed-back w n (state_of s.a s.b s.c s.d) _ h (omega arith) (omega arith) c.inv_mix.ensures)
+          (c.add_words-s-in-loop-n.ensures w e ∙ mixed_back w n (state_of s.a s.b s.c s.d) _ h (omega arith) (omega arith) c.inv_mix.ensures)
           ∙ l.loop-n.invariant.1 w h e,
     )
 
