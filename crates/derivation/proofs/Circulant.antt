@@ -6,8 +6,8 @@ use Rattle.incidence.specs.Family.{parity}
 use Rattle.plane.specs.Plane.{member, on}
 use Rattle.plane.proofs.Cyclic.{on-inside}
 use Rattle.incidence.proofs.Parity.{parity_ext, parity-none, parity_swap}
-use Rattle.deriving.specs.Shortest.{Within, xor_back, Yields}
-use Rattle.deriving.proofs.Matrices.{within_ext}
+use Rattle.derivation.specs.Shortest.{Within, xor_back, Yields}
+use Rattle.derivation.proofs.Matrices.{within_ext}
 
 -- whether the XOR of the turns of D by the steps of U holds place x
 unfoldable pub turned : ℕ → List ℕ → List ℕ → ℕ → Bool

@@ -5,7 +5,7 @@ use Rattle.incidence.specs.Count.{any_up_to, listed}
 use Rattle.incidence.specs.Family.{parity}
 use Rattle.incidence.proofs.Booleans.{not_both, not_passed}
 use Rattle.incidence.proofs.Counting.{Found, any_found, any_some, last_or}
-use Rattle.deriving.specs.Shortest.{Within, xor_back, Yields, Fails, NoShorterPattern, NoShorterRow, Independent}
+use Rattle.derivation.specs.Shortest.{Within, xor_back, Yields, Fails, NoShorterPattern, NoShorterRow, Independent}
 use Rattle.incidence.proofs.Parity.{xor_same, xor_self, parity-last}
 
 module _ (m : ℕ) (on : ℕ → ℕ → Bool) (Q : List ℕ) (i : ℕ) where

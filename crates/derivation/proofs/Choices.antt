@@ -7,8 +7,8 @@ use Rattle.incidence.proofs.Counting.{last_or, bit-most, count_ext, count_none}
 use Rattle.incidence.proofs.Booleans.{not_both}
 use Rattle.incidence.proofs.Listing.{listed-length, listed_ext}
 use Rattle.incidence.proofs.Parity.{xor_turn, xor-none, xor_self, xor_same, parity-none, parity-append, parity-map, parity_swap, parity-next}
-use Rattle.deriving.specs.Shortest.{Within, xor_back, Pattern, OnlyPattern, FewestSteps, Independent}
-use Rattle.deriving.proofs.Matrices.{within_ext, listed-within, back, back_within}
+use Rattle.derivation.specs.Shortest.{Within, xor_back, Pattern, OnlyPattern, FewestSteps, Independent}
+use Rattle.derivation.proofs.Matrices.{within_ext, listed-within, back, back_within}
 
 -- ---- the parity of a test over the numbers that pass another
 

@@ -9,7 +9,7 @@ use Rattle.cyclic.specs.CyclicCode.{row_pattern}
 use Rattle.cyclic.specs.Deriving.{refuses, pattern_answer, pattern_writes}
 use Rattle.cyclic.specs.declared.Derived.{Derived}
 use Rattle.cyclic.proofs.Deriving.{refuses-not, is_derived, is_written}
-use Rattle.deriving.specs.Derived.{derived}
+use Rattle.derivation.specs.Derived.{derived}
 
 small : ℕ → Bool
 small s = under 274 (differences s)

@@ -5,8 +5,8 @@
 ghost use Rattle.std.specs.Prelude.{◌≡◌, ◌++◌, ◌+◌, ◌≤◌, length, take, drop};
 ghost use Rattle.plane.specs.Table.{differences, plane_pattern};
 ghost use Rattle.printing.specs.Text.{labelled, over};
-ghost use Rattle.deriving.specs.Lines.{words, pattern_line, pattern_lines};
-ghost use Rattle.deriving.specs.Derived.{derived};
+ghost use Rattle.derivation.specs.Lines.{words, pattern_line, pattern_lines};
+ghost use Rattle.derivation.specs.Derived.{derived};
 
 use plane::table;
 

@@ -10,9 +10,9 @@ use Rattle.plane.specs.Plane.{plane}
 use Rattle.plane.proofs.Rules.{rules}
 use Rattle.polynomials.specs.Polynomial.{longer, poly_size, raised, less, gcd_in, gcd, quotient_in, quotient}
 use Rattle.cyclic.specs.CyclicCode.{modulus, of_list, generator_polynomial, check_polynomial, steps_back, row_pattern}
-use Rattle.deriving.specs.Shortest.{Pattern, NoShorterPattern, NoShorterRow, OnlyPattern, FewestSteps, Independent}
-use Rattle.deriving.specs.Derived.{derived}
-use Rattle.deriving.proofs.Lists as lists
+use Rattle.derivation.specs.Shortest.{Pattern, NoShorterPattern, NoShorterRow, OnlyPattern, FewestSteps, Independent}
+use Rattle.derivation.specs.Derived.{derived}
+use Rattle.derivation.proofs.Lists as lists
 
 -- the pattern derived is the one in use, the degree of the check polynomial is t, t is 3^s + 1, and there are more rows
 plane_test : ℕ → Bool

@@ -4,9 +4,9 @@ use Rattle.incidence.proofs.Counting.{every, every_at}
 use Rattle.plane.specs.Table.{pattern_lists, plane_pattern}
 use Rattle.printing.specs.Text.{ascii, digits, decimal, labelled, over}
 use Rattle.printing.proofs.Putting.{Put, over-front, put_as, put_size, put_front, put_counts}
-use Rattle.deriving.specs.Derived.{derived}
-use Rattle.deriving.specs.Lines.{words, pattern_line, pattern_lines}
-use Rattle.deriving.proofs.Planes.{derived_in_use}
+use Rattle.derivation.specs.Derived.{derived}
+use Rattle.derivation.specs.Lines.{words, pattern_line, pattern_lines}
+use Rattle.derivation.proofs.Planes.{derived_in_use}
 
 pub lines_more : (s : ℕ) → 1 ≤ s → pattern_lines derived (s - 1) ++ pattern_line s (derived s) ≡ pattern_lines derived (s + 1 - 1)
 unfolding pattern_lines

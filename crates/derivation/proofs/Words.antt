@@ -1,8 +1,8 @@
 -- The words of a pattern: one step more, and the room that fewer take.
 use Rattle.fips197.proofs.Kit.{◌≡◌, refl, sym, ap, ap₂, ◌∙◌, List, [], ◌∷◌, ◌++◌, append-nil, append_assoc, ℕ, zero, suc, ◌+◌, ◌≤◌, ◌<◌, arith, add-one, length, get_or, take, drop, length-append, take_at}
 use Rattle.printing.specs.Text.{labelled}
-use Rattle.deriving.specs.Lines.{words}
-use Rattle.deriving.specs.Derived.{derived}
+use Rattle.derivation.specs.Lines.{words}
+use Rattle.derivation.specs.Derived.{derived}
 
 pub words-next : (P : List ℕ) (i : ℕ) → i < length P → words (take (i + 1) P) ≡ words (take i P) ++ labelled " " (get_or P i 0)
 unfolding words

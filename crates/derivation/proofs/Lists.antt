@@ -15,11 +15,11 @@ use Rattle.polynomials.proofs.Lessening.{size-at, size_above}
 use Rattle.polynomials.proofs.Recurring.{act_highest}
 use Rattle.cyclic.specs.CyclicCode.{of_list, generator_polynomial, check_polynomial, steps_back, row_pattern}
 use Rattle.cyclic.proofs.Checking.{bezout, check_kills, check_size, generator_some}
-use Rattle.deriving.specs.Shortest.{Within, xor_back, Pattern, NoShorterPattern, NoShorterRow, OnlyPattern, FewestSteps, Independent}
-use Rattle.deriving.proofs.Matrices.{fails-or, no_shorter_pattern_by, independent_by, listed-within, within_ext}
-use Rattle.deriving.proofs.Choices.{only_pattern_by, fewest_steps_by}
-use Rattle.deriving.proofs.Circulant.{turned, no_row}
-use Rattle.deriving.proofs.Reading.{at_card, at_card_period, shows, row_shows, row_on}
+use Rattle.derivation.specs.Shortest.{Within, xor_back, Pattern, NoShorterPattern, NoShorterRow, OnlyPattern, FewestSteps, Independent}
+use Rattle.derivation.proofs.Matrices.{fails-or, no_shorter_pattern_by, independent_by, listed-within, within_ext}
+use Rattle.derivation.proofs.Choices.{only_pattern_by, fewest_steps_by}
+use Rattle.derivation.proofs.Circulant.{turned, no_row}
+use Rattle.derivation.proofs.Reading.{at_card, at_card_period, shows, row_shows, row_on}
 
 -- a polynomial's first t terms, counted back from place x + t
 terms_back : (h : List ℕ) (t : ℕ) (f : ℕ → Bool) (x : ℕ) → t ≤ length h
