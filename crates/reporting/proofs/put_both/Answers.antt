@@ -1,5 +1,5 @@
 -- Refused or done, what is put is the text (Texts).
-use Rattle.fips197.proofs.Kit.{ap, ◌∙◌, List, ℕ, length, now}
+use Rattle.fips197.proofs.Kit.{ap, ◌∙◌, List, ℕ, length}
 use Rattle.printing.specs.Text.{over}
 use Rattle.printing.proofs.Putting.{put_as, put_front}
 use Rattle.files.specs.declared.tagfile.Head.{Head}
@@ -12,27 +12,23 @@ use Rattle.reporting.proofs.put_both.Goals as goal
 pub returns-then-refused-ne0 : goal.returns-then-refused-ne0
 returns-then-refused-ne0 c =
     let a = c.args in
-    let r = c.tag_refused in
-    let r = put_front _ _ _ _ (put_as _ _ _ _ _ _ (tag_refused (now a.keys) a.code (now a.first) (now a.second) r.result r.ensures.0 c.if-refused-ne0.true) (c.put_refused.ensures.written, c.put_refused.ensures.behind)) in
+    let r = put_front _ _ _ _ (put_as _ _ _ _ _ _ (tag_refused (a.keys.now) a.code (a.first.now) (a.second.now) c.tag-refused.result c.tag-refused.ensures.refused c.if-refused-ne0.true) (c.put_refused.ensures.written, c.put_refused.ensures.behind)) in
     record { written = r.0; behind = r.1 }
 
 pub head_for-head-requires : goal.head_for-head-requires
 head_for-head-requires c =
     let a = c.args in
-    let r = c.tag_refused in
-    let T = taggable (now a.keys) a.code (now a.first) 1340 r.result r.ensures.0 c.if-refused-ne0.false in
+    let T = taggable (a.keys.now) a.code (a.first.now) 1340 c.tag-refused.result c.tag-refused.ensures.refused c.if-refused-ne0.false in
     T.message.long
 
 pub returns : goal.returns
 unfolding tag_head
 returns c =
-    let t = c in
-    let a = t.args in
-    let r = t.tag_refused in
+    let a = c.args in
     let l = c.if-refused-ne0.false in
-    let f = tag_file_lem (now a.keys) a.code (now a.first) (now a.second) r.result r.ensures.0 l _ _ (c.file_size-end.ensures.0 ∙ ap file_size c.head_for-head.ensures) r.ensures.1 in
-    let w = tag_done (now a.keys) a.code (now a.first) (now a.second) r.result r.ensures.0 l _ _ (ap (λ (x : Head). x.count) c.head_for-head.ensures) f in
+    let f = tag_file_lem (a.keys.now) a.code (a.first.now) (a.second.now) c.tag-refused.result c.tag-refused.ensures.refused l _ _ (c.file_size-end.ensures.0 ∙ ap file_size c.head_for-head.ensures) c.tag-refused.ensures.written in
+    let w = tag_done (a.keys.now) a.code (a.first.now) (a.second.now) c.tag-refused.result c.tag-refused.ensures.refused l _ _ (ap (λ (x : Head). x.count) c.head_for-head.ensures) f in
     record {
-      written = c.put_report.ensures.written ∙ ap (λ (t : List ℕ). over 0 t (now a.out)) w;
+      written = c.put_report.ensures.written ∙ ap (λ (t : List ℕ). over 0 t (a.out.now)) w;
       behind = c.put_report.ensures.behind ∙ ap length w;
     }
