@@ -1,5 +1,5 @@
 -- From sums to files and back: what the calls write, and the sums that a file gives.
-use Rattle.fips197.proofs.Kit.{◌≡◌, refl, sym, ap, ap₂, ◌∙◌, subst, Bool, true, false, List, ◌++◌, ℕ, suc, ◌+◌, ◌-◌, ◌*◌, ◌≤◌, ◌<◌, arith, length, take, drop, length-append, length-take, length-drop, take_at, drop_at}
+use Rattle.fips197.proofs.Kit.{◌≡◌, refl, sym, ap, ap₂, ◌∙◌, subst, Bool, true, false, List, ◌++◌, ℕ, suc, ◌-◌, ◌*◌, ◌≤◌, ◌<◌, arith, length, take, drop, length-append, length-take, length-drop, take_at, drop_at}
 use Rattle.blocks.specs.Block.{if◌then◌else◌, ◌⊕◌, slot, list_of, same}
 use Rattle.cipher.specs.Aes.{encipher, decipher}
 use Rattle.blocks.proofs.Xor.{same_true, same_eq}

@@ -8,7 +8,6 @@ use Rattle.incidence.proofs.Sums.{expanded_ext, expanded-row_sum}
 use Rattle.sizes.specs.Sizes.{known, family_of}
 use Rattle.sizes.proofs.Laws.{lawful}
 use Rattle.files.specs.Refusals.{none}
-use Rattle.stamp.specs.declared.Stamp.{Stamp}
 use Rattle.stamp.specs.Front.{stamp_fits}
 use Rattle.files.specs.declared.tagfile.Head.{Head}
 use Rattle.files.specs.TagFile.{newest_tag_file, head_of, tags_in, count_fits, refuse6, refuse20, Written}

@@ -1,5 +1,5 @@
 -- Letters, version and number: what is laid out is read back, and what is read is what was laid out.
-use Rattle.fips197.proofs.Kit.{◌≡◌, refl, sym, ap, ap₂, ◌∙◌, subst, Bool, true, false, ◌&&◌, List, [], ◌∷◌, ◌++◌, append_assoc, append-nil, ℕ, suc, ◌+◌, ◌-◌, ◌^◌, ◌≤◌, ◌<◌, add-one, arith, eqb, eqb-true, eqb-false, leb, leb-true, le-leb, lt-leb, length, get_or, take, drop, drop-cons, length-append, length-take, length-drop, take-add, take_at, drop_at, drop-drop, eq-eqb, ne_eqb, ltb-true}
+use Rattle.fips197.proofs.Kit.{◌≡◌, refl, sym, ap, ap₂, ◌∙◌, subst, Bool, true, false, ◌&&◌, List, [], ◌∷◌, ◌++◌, append_assoc, append-nil, ℕ, suc, ◌+◌, ◌^◌, ◌≤◌, ◌<◌, add-one, arith, eqb, eqb-true, eqb-false, leb, leb-true, le-leb, lt-leb, length, get_or, take, drop, drop-cons, length-append, length-take, length-drop, take-add, take_at, drop_at, drop-drop, eq-eqb, ne_eqb, ltb-true}
 use Rattle.blocks.specs.Block.{if◌then◌else◌, Bytes, same}
 use Rattle.blocks.specs.Number.{number_of, number, big_endian}
 use Rattle.incidence.specs.Count.{inside}

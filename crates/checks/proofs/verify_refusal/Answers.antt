@@ -12,7 +12,7 @@ pub returns : goal.returns
 unfolding verify_refusal
 returns c =
     let early : c.first3-r.result ≡ first (first (refuse1 (length c.args.keys.now) ∷ refuse3 c.args.s.now ∷ []) ∷ refuse5 c.args.s.now ∷ refuse6 c.args.f.now ∷ []) =
-        search listed depth 12 in
+    search listed depth 12 in
     rw (run2, run3) (same_first _ _ _ c.first4.ensures
     (same_cons early
     (same_cons c.check_seal-seal.ensures (same_cons c.check_counts-counts.ensures (same_cons c.check_numbers-numbers.ensures same_nil)))))
@@ -32,9 +32,9 @@ returns-then-r-ne0-2 c = rw (run2, run3) (stop _ _ _ (search listed depth 12) c.
 pub check_seal-seal-requires : goal.check_seal-seal-requires
 unfolding verify_refusal
 check_seal-seal-requires c = record {
-      engine_tables = search rules;
-      keys_value = (search passes1, passes3 _ _ _ _ _ _ c.check.ensures c.first3-r.ensures c.if-r-ne0-2.false);
-    }
+  engine_tables = search rules;
+  keys_value = (search passes1, passes3 _ _ _ _ _ _ c.check.ensures c.first3-r.ensures c.if-r-ne0-2.false);
+}
 
 pub check_counts-counts-requires : goal.check_counts-counts-requires
 unfolding verify_refusal

@@ -10,7 +10,7 @@ returns-then-m-eq0 c =
     let m = c.args.m in
     let o = c.args.out.now in
     let e : refuses m (length o) ≡ true = elim c.then-m-eq0.branch [
-        then-m-eq0-via-then-m-eq0 w ↦ refuses-none m (length o) w.if-m-eq0.true
+      | then-m-eq0-via-then-m-eq0 w ↦ refuses-none m (length o) w.if-m-eq0.true
       | then-m-eq0-via-else-m-eq0+then-m-gt273 w ↦ refuses-many m (length o) (lt-ltb 273 m w.if-m-gt273.true)
       | then-m-eq0-via-else-m-eq0+else-m-gt273+then-out-m w ↦ refuses-short m (length o) (lt-ltb (length o) m w.if-out-m.true)
     ] in

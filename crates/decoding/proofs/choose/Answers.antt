@@ -1,6 +1,5 @@
 -- By its tests (incidence Reports).
-use Rattle.fips197.proofs.Kit.{sym, ap, ◌∙◌, ◌≤◌, ◌<◌, arith, leb, le-leb}
-use Rattle.incidence.proofs.Booleans.{not_both}
+use Rattle.fips197.proofs.Kit.{sym, ◌∙◌, ◌<◌, arith}
 use Rattle.incidence.proofs.Reports.{answer-intact, answer-named, answer-beyond}
 use Rattle.decoding.proofs.choose.Goals as goal
 use Rattle.decoding.proofs.choose.Goals.{else-names-ge1-via-then-names-ge1+then-names-limit+else-not-find_unexplained, else-names-ge1-via-then-names-ge1+else-names-limit, else-names-ge1-via-else-names-ge1}
@@ -17,9 +16,9 @@ pub returns : goal.returns
 returns c =
     let some : 0 < c.args.rows = omega (arith, c.if-rows-eq0.false) in
     elim c.else-names-ge1.branch [
-        else-names-ge1-via-then-names-ge1+then-names-limit+else-not-find_unexplained w ↦
-            sym (answer-beyond _ _ _ _ some (λ l u. sym w.find_unexplained.ensures ∙ w.if-not-find_unexplained.false))
+      | else-names-ge1-via-then-names-ge1+then-names-limit+else-not-find_unexplained w ↦
+          sym (answer-beyond _ _ _ _ some (λ l u. sym w.find_unexplained.ensures ∙ w.if-not-find_unexplained.false))
       | else-names-ge1-via-then-names-ge1+else-names-limit w ↦
-            sym (answer-beyond _ _ _ _ some (λ l u. absurd (omega (arith, w.if-names-limit.false, w.limit.ensures, u))))
+          sym (answer-beyond _ _ _ _ some (λ l u. absurd (omega (arith, w.if-names-limit.false, w.limit.ensures, u))))
       | else-names-ge1-via-else-names-ge1 w ↦ sym (answer-beyond _ _ _ _ some (λ l u. absurd (omega (arith, w.if-names-ge1.false, l))))
     ]

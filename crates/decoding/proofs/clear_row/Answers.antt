@@ -13,21 +13,20 @@ loop-k-init c =
 pub offset_bounds-items-k : goal.offset_bounds-items-k
 offset_bounds-items-k c =
     let few : c.items_of-held.result ≤ 17 =
-        let a = c.args in
+    let a = c.args in
     omega (arith, c.items_of-held.ensures.count, item_list_few a.code a.row) in
     omega (arith, c.loop-k-test.true, few)
 
 pub bounds-items-k : goal.bounds-items-k
 bounds-items-k c =
     let few : c.items_of-held.result ≤ 17 =
-        let a = c.args in
+    let a = c.args in
     omega (arith, c.items_of-held.ensures.count, item_list_few a.code a.row) in
     omega (arith, c.loop-k-test.true, few)
 
 pub clear_item-requires : goal.clear_item-requires
 clear_item-requires c =
-    let F = family_of c.args.code in
-    (
+    let F = family_of c.args.code in (
       (item_is F c.args.row c.loop-k.k _ (written_at (items_of F c.args.row) _ (c.items_of-held.ensures.written, c.items_of-held.ensures.count) c.loop-k.k c.loop-k-test.true) (omega (arith, c.items_of-held.ensures.count))).low,
       omega (arith, c.requires.1, c.loop-k.invariant.1.size),
     )

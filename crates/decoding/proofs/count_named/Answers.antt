@@ -15,7 +15,7 @@ loop-i-preserved c =
     let marks = c.args.marks.now in (
       omega arith,
       elim c.if-marks-i-ne0.branch [
-          then-marks-i-ne0 w ↦ w.found-is ∙ counted_more marks c.loop-i.i c.loop-i.found c.loop-i.invariant.1 w.if-marks-i-ne0.true
+        | then-marks-i-ne0 w ↦ w.found-is ∙ counted_more marks c.loop-i.i c.loop-i.found c.loop-i.invariant.1 w.if-marks-i-ne0.true
         | else-marks-i-ne0 w ↦ w.found-is ∙ counted_same marks c.loop-i.i c.loop-i.found c.loop-i.invariant.1 w.if-marks-i-ne0.false
       ],
     )

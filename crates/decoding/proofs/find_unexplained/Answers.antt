@@ -1,5 +1,5 @@
 -- Each turn tests one row (Picking).
-use Rattle.fips197.proofs.Kit.{◌≡◌, refl, sym, ap, ◌∙◌, false, ◌+◌, arith}
+use Rattle.fips197.proofs.Kit.{◌≡◌, refl, sym, ap, ◌∙◌, ◌+◌, arith}
 use Rattle.incidence.specs.Count.{any_up_to}
 use Rattle.incidence.proofs.Counting.{any_some}
 use Rattle.sizes.specs.Sizes.{family_of}
@@ -23,12 +23,11 @@ returns-then-is_unexplained c =
     (omega (arith, c.rows-rows.ensures)) (sym c.is_unexplained.ensures ∙ c.if-is_unexplained.true))
 
 pub loop-i-preserved : goal.loop-i-preserved
-loop-i-preserved c =
-    (
-      omega arith,
-      any_fails (unexplained_in (family_of c.args.code) (agrees_in c.args.d.now) c.args.marks.now c.args.n) c.loop-i.i c.loop-i.invariant.1
-          (sym c.is_unexplained.ensures ∙ c.if-is_unexplained.false),
-    )
+loop-i-preserved c = (
+  omega arith,
+  any_fails (unexplained_in (family_of c.args.code) (agrees_in c.args.d.now) c.args.marks.now c.args.n) c.loop-i.i c.loop-i.invariant.1
+      (sym c.is_unexplained.ensures ∙ c.if-is_unexplained.false),
+)
 
 pub returns : goal.returns
 returns c =

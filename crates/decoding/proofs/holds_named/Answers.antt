@@ -14,14 +14,14 @@ loop-k-init c =
 pub offset_bounds-items-k : goal.offset_bounds-items-k
 offset_bounds-items-k c =
     let few : c.items_of-held.result ≤ 17 =
-        let a = c.args in
+    let a = c.args in
     omega (arith, c.items_of-held.ensures.count, item_list_few a.code a.row) in
     omega (arith, c.loop-k-test.true, few)
 
 pub bounds-items-k : goal.bounds-items-k
 bounds-items-k c =
     let few : c.items_of-held.result ≤ 17 =
-        let a = c.args in
+    let a = c.args in
     omega (arith, c.items_of-held.ensures.count, item_list_few a.code a.row) in
     omega (arith, c.loop-k-test.true, few)
 

@@ -12,11 +12,11 @@ returns c =
       written = e.written;
       read = report_read c.args.keys.now c.args.message.now c.args.tagfile.now c.args.marks.now _ _ _ _ _ e.refused e.answer e.named e.rows c.pack_report.ensures.packed c.pack_report.ensures.passes;
       detection = λ q. claim_packed c.args.keys.now c.args.message.now c.args.tagfile.now c.args.marks.now _ _ _ _ _ e.refused e.answer e.named e.rows c.pack_report.ensures.packed c.pack_report.ensures.passes q _
-                e.detection;
+          e.detection;
       counting = λ q. rows-packed c.args.keys.now c.args.message.now c.args.tagfile.now c.args.marks.now _ _ _ _ _ e.refused e.answer e.named e.rows c.pack_report.ensures.packed c.pack_report.ensures.passes q
-                  e.counting;
+          e.counting;
       naming = λ q. e.naming (c.pack_report.ensures.passes q);
       drifting = λ q. drift_read c.args.keys.now c.args.message.now c.args.tagfile.now _ _
-                    (rows_as_read c.args.keys.now c.args.message.now c.args.tagfile.now c.args.marks.now _ _ _ _ _ e.refused e.answer e.named e.rows c.pack_report.ensures.packed c.pack_report.ensures.passes q)
-                    (e.drifting (c.pack_report.ensures.passes q));
+          (rows_as_read c.args.keys.now c.args.message.now c.args.tagfile.now c.args.marks.now _ _ _ _ _ e.refused e.answer e.named e.rows c.pack_report.ensures.packed c.pack_report.ensures.passes q)
+          (e.drifting (c.pack_report.ensures.passes q));
     }

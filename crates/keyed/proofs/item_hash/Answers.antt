@@ -17,7 +17,7 @@ returns-then-vacant c =
 pub mac_in_place-requires : goal.mac_in_place-requires
 mac_in_place-requires c =
     let kept : length c.put_numbered.new.out ≡ length c.args.room.now =
-        let a = c.args in
+    let a = c.args in
     front_kept ((big_endian 4 a.stamp.number ++ big_endian 4 a.j) ++ a.item.now) a.room.now _ (8 + length a.item.now)
     (numbered_length a.stamp.number a.j a.item.now) (omega (arith, c.requires.item_len_bound.0, c.requires.item_len_bound.1)) c.put_numbered.ensures in
     record {

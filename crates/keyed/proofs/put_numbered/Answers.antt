@@ -8,10 +8,10 @@ pub put_bytes-requires-2 : goal.put_bytes-requires-2
 put_bytes-requires-2 c =
     let numbers-long : length c.to_be64-numbers.result ≡ 8 = search rules in
     let front : c.put_bytes.new.out ≡ c.to_be64-numbers.result ++ drop 8 c.args.out.now =
-        let e : 0 + length c.to_be64-numbers.result ≡ 8 = omega (arith, numbers-long) in
+    let e : 0 + length c.to_be64-numbers.result ≡ 8 = omega (arith, numbers-long) in
     c.put_bytes.ensures ∙ ap (λ (k : ℕ). c.to_be64-numbers.result ++ drop k c.args.out.now) e in
     let kept : length c.put_bytes.new.out ≡ length c.args.out.now =
-        let o = c.args.out.now in
+    let o = c.args.out.now in
     front_kept c.to_be64-numbers.result o _ 8 numbers-long (omega (arith, c.requires)) front in
     omega (arith, kept, c.requires)
 
@@ -19,7 +19,7 @@ pub returns : goal.returns
 returns c =
     let numbers-long : length c.to_be64-numbers.result ≡ 8 = search rules in
     let front : c.put_bytes.new.out ≡ c.to_be64-numbers.result ++ drop 8 c.args.out.now =
-        let e : 0 + length c.to_be64-numbers.result ≡ 8 = omega (arith, numbers-long) in
+    let e : 0 + length c.to_be64-numbers.result ≡ 8 = omega (arith, numbers-long) in
     c.put_bytes.ensures ∙ ap (λ (k : ℕ). c.to_be64-numbers.result ++ drop k c.args.out.now) e in
     let a = c.args in
     put_behind c.to_be64-numbers.result a.item.now a.out.now _ _ 8 (length a.item.now) numbers-long front c.put_bytes-2.ensures

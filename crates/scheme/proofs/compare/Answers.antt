@@ -16,7 +16,7 @@ of-keys k K s f z d e = subst (λ (x : Keys). Holds (family_of (code_of f)).tags
 pub read_differences-requires : goal.read_differences-requires
 read_differences-requires c =
     let passed : Reportable c.args.keys.now c.args.s.now c.args.f.now c.args.room =
-        reportable _ _ _ _ _ c.report_refusal-refused.ensures c.if-refused-ne0.false in
+    reportable _ _ _ _ _ c.report_refusal-refused.ensures c.if-refused-ne0.false in
     let p = passed.files in
     record { engine_tables = search rules; sound = p.message; formed = p.file; f_in_bounds = c.requires }
 
@@ -33,5 +33,5 @@ returns-then-refused-ne0 c = record { refused = c.report_refusal-refused.ensures
 pub keys_in-requires : goal.keys_in-requires
 keys_in-requires c =
     let passed : Reportable c.args.keys.now c.args.s.now c.args.f.now c.args.room =
-        reportable _ _ _ _ _ c.report_refusal-refused.ensures c.if-refused-ne0.false in
+    reportable _ _ _ _ _ c.report_refusal-refused.ensures c.if-refused-ne0.false in
     omega (arith, passed.files.keys48)

@@ -33,5 +33,5 @@ unfolding head_of stamp_of
 returns c =
     let code_is : c.head_of-head.result.code ≡ code_of c.args.f.now = ap (λ (h : Head). h.code) c.head_of-head.ensures.0 in
     let stamp-is : c.stamp_in.result ≡ stamp_in (version_of c.args.f.now) c.args.s.now =
-        c.stamp_in.ensures ∙ ap (λ (x : Head). stamp_in x.stamp.version c.args.s.now) c.head_of-head.ensures.0 in
+    c.stamp_in.ensures ∙ ap (λ (x : Head). stamp_in x.stamp.version c.args.s.now) c.head_of-head.ensures.0 in
     differences-made c.args.keys c.args.s.now c.args.f.now _ _ _ _ _ stamp-is code_is c.read_sums.ensures c.add_items.ensures

@@ -12,9 +12,9 @@ pub write_sums-requires : goal.write_sums-requires
 unfolding head_of
 write_sums-requires c =
     let tags-are : c.tags-n.result ≡ (family_of (code_of c.args.f.now)).tags =
-        c.tags-n.ensures ∙ ap (λ (h : Head). (family_of h.code).tags) c.head_of-head.ensures.0 in
+    c.tags-n.ensures ∙ ap (λ (h : Head). (family_of h.code).tags) c.head_of-head.ensures.0 in
     let tags-read : length c.tags_in.result.now ≡ 16 * c.tags-n.result =
-        ap length c.tags_in.ensures ∙ tags-long c.args.f.now c.requires.formed ∙ ap (λ (n : ℕ). 16 * n) (sym tags-are) in
+    ap length c.tags_in.ensures ∙ tags-long c.args.f.now c.requires.formed ∙ ap (λ (n : ℕ). 16 * n) (sym tags-are) in
     record {
       engine_tables = c.requires.engine_tables;
       n_in_bounds = (omega (arith, tags-read), omega (arith, tags-are, c.requires.f_in_bounds));
@@ -24,7 +24,7 @@ pub returns : goal.returns
 unfolding sum_tagged head_of
 returns c =
     let tags-are : c.tags-n.result ≡ (family_of (code_of c.args.f.now)).tags =
-        c.tags-n.ensures ∙ ap (λ (h : Head). (family_of h.code).tags) c.head_of-head.ensures.0 in
+    c.tags-n.ensures ∙ ap (λ (h : Head). (family_of h.code).tags) c.head_of-head.ensures.0 in
     let key-long : length c.args.keys.tag ≡ 16 = search rules in
     sums_read c.args.keys.tag c.args.f.now c.tags_in.result.now c.args.sums.now _ _ key-long c.tags_in.ensures tags-are (omega (arith, tags-are, c.requires.f_in_bounds))
     (sums-expanded c.args.keys.tag _ _ _ _ _ c.expand.ensures c.write_sums.ensures)

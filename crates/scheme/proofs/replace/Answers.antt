@@ -8,15 +8,15 @@ use Rattle.scheme.proofs.replace.Goals as goal
 pub returns-then-r-ne0 : goal.returns-then-r-ne0
 unfolding replace_writes
 returns-then-r-ne0 c = record {
-      refused = c.replace_refusal-r.ensures;
-      written = kept _ _ c.replace_refusal-r.ensures _ _ c.if-r-ne0.true;
-    }
+  refused = c.replace_refusal-r.ensures;
+  written = kept _ _ c.replace_refusal-r.ensures _ _ c.if-r-ne0.true;
+}
 
 pub write_replaced-requires : goal.write_replaced-requires
 write_replaced-requires c = record {
-      engine_tables = search rules;
-      replaceable = replaceable _ _ _ _ _ _ _ c.replace_refusal-r.ensures c.if-r-ne0.false;
-    }
+  engine_tables = search rules;
+  replaceable = replaceable _ _ _ _ _ _ _ c.replace_refusal-r.ensures c.if-r-ne0.false;
+}
 
 pub returns : goal.returns
 unfolding replace_writes

@@ -33,7 +33,7 @@ returns-then-refused-ne0 c =
 pub decode_files-found-requires : goal.decode_files-found-requires
 decode_files-found-requires c =
     let passed : Reportable c.args.keys.now c.args.message.now c.args.file.now (length c.args.marks.now) =
-        reportable _ _ _ _ _ c.compare-refused.ensures.refused c.if-refused-ne0.false in
+    reportable _ _ _ _ _ c.compare-refused.ensures.refused c.if-refused-ne0.false in
     let p = passed in
     let H = c.compare-refused.ensures.differences c.if-refused-ne0.false in
     record {
@@ -47,7 +47,7 @@ pub returns : goal.returns
 unfolding report_writes report_answer report_named report_rows
 returns c =
     let passed : Reportable c.args.keys.now c.args.message.now c.args.file.now (length c.args.marks.now) =
-        reportable _ _ _ _ _ c.compare-refused.ensures.refused c.if-refused-ne0.false in
+    reportable _ _ _ _ _ c.compare-refused.ensures.refused c.if-refused-ne0.false in
     let t = c.if-refused-ne0.false in
     let H = c.compare-refused.ensures.differences t in
     let p = passed in

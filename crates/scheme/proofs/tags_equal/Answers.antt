@@ -41,7 +41,7 @@ pub slice_bounds-eq-end : goal.slice_bounds-eq-end
 slice_bounds-eq-end c =
     let few : 16 * c.tags-n.result ≤ 1312 = omega (arith, c.tags-n.ensures, tags_few c.head_of-head.result.code) in
     let key-long : length c.keys_in-k.result.tag ≡ 16 =
-        tag_key_long c.keys_in-k.result _ c.keys_in-k.ensures c.requires.comparable.keys48 in
+    tag_key_long c.keys_in-k.result _ c.keys_in-k.ensures c.requires.comparable.keys48 in
     let e = tags-expanded c.keys_in-k.result.tag _ _ _ _ _ c.expand.ensures c.write_tags.ensures in
     omega (arith, few, written_long c.keys_in-k.result.tag _ (zeros 1312) _ _ key-long few e)
 
@@ -55,9 +55,9 @@ returns c =
     let code_is : c.head_of-head.result.code ≡ code_of c.args.f.now = ap (λ (h : Head). h.code) c.head_of-head.ensures.0 in
     let few : 16 * c.tags-n.result ≤ 1312 = omega (arith, c.tags-n.ensures, tags_few c.head_of-head.result.code) in
     let stamp-is : c.stamp_in.result ≡ stamp_in (version_of c.args.f.now) c.args.s.now =
-        c.stamp_in.ensures ∙ ap (λ (x : Head). stamp_in x.stamp.version c.args.s.now) c.head_of-head.ensures.0 in
+    c.stamp_in.ensures ∙ ap (λ (x : Head). stamp_in x.stamp.version c.args.s.now) c.head_of-head.ensures.0 in
     let key-long : length c.keys_in-k.result.tag ≡ 16 =
-        tag_key_long c.keys_in-k.result _ c.keys_in-k.ensures c.requires.comparable.keys48 in
+    tag_key_long c.keys_in-k.result _ c.keys_in-k.ensures c.requires.comparable.keys48 in
     let e = tags-expanded c.keys_in-k.result.tag _ _ _ _ _ c.expand.ensures c.write_tags.ensures in
     let g = c.head_of-head.result in
     let st = c.stamp_in.result in

@@ -15,7 +15,7 @@ unfolding head_of
 read_sums-requires c =
     let code_is : c.head_of-head.result.code ≡ code_of c.args.f.now = ap (λ (h : Head). h.code) c.head_of-head.ensures.0 in
     let few : 16 * (family_of c.head_of-head.result.code).tags ≤ 1312 =
-        omega (arith, tags_few c.head_of-head.result.code) in
+    omega (arith, tags_few c.head_of-head.result.code) in
     record {
       engine_tables = c.requires.engine_tables;
       formed = c.requires.replaceable.file;
@@ -28,7 +28,7 @@ add_item-requires c =
     let code_is : c.head_of-head.result.code ≡ code_of c.args.f.now = ap (λ (h : Head). h.code) c.head_of-head.ensures.0 in
     let code-known : known c.head_of-head.result.code ≡ true = ap known code_is ∙ file-code _ c.requires.replaceable.file in
     let few : 16 * (family_of c.head_of-head.result.code).tags ≤ 1312 =
-        omega (arith, tags_few c.head_of-head.result.code) in
+    omega (arith, tags_few c.head_of-head.result.code) in
     record {
       engine_tables = c.requires.engine_tables;
       code_value = code-known;
@@ -42,7 +42,7 @@ add_item-requires-2 c =
     let code_is : c.head_of-head.result.code ≡ code_of c.args.f.now = ap (λ (h : Head). h.code) c.head_of-head.ensures.0 in
     let code-known : known c.head_of-head.result.code ≡ true = ap known code_is ∙ file-code _ c.requires.replaceable.file in
     let few : 16 * (family_of c.head_of-head.result.code).tags ≤ 1312 =
-        omega (arith, tags_few c.head_of-head.result.code) in
+    omega (arith, tags_few c.head_of-head.result.code) in
     record {
       engine_tables = c.requires.engine_tables;
       code_value = code-known;
@@ -55,10 +55,10 @@ unfolding head_of
 write_file-requires c =
     let code_is : c.head_of-head.result.code ≡ code_of c.args.f.now = ap (λ (h : Head). h.code) c.head_of-head.ensures.0 in
     let count-is : c.head_of-head.result.count ≡ count_of c.args.f.now =
-        ap (λ (h : Head). h.count) c.head_of-head.ensures.0 in
+    ap (λ (h : Head). h.count) c.head_of-head.ensures.0 in
     let code-known : known c.head_of-head.result.code ≡ true = ap known code_is ∙ file-code _ c.requires.replaceable.file in
     let few : 16 * (family_of c.head_of-head.result.code).tags ≤ 1312 =
-        omega (arith, tags_few c.head_of-head.result.code) in
+    omega (arith, tags_few c.head_of-head.result.code) in
     record {
       engine_tables = c.requires.engine_tables;
       code_value = code-known;

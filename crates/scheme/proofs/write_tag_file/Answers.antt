@@ -16,7 +16,7 @@ add_items-requires c =
     let code_is : c.head_for-head.result.code ≡ c.args.code = ap (λ (h : Head). h.code) c.head_for-head.ensures in
     let code-known : known c.head_for-head.result.code ≡ true = ap known code_is ∙ c.requires.code in
     let few : 16 * (family_of c.head_for-head.result.code).tags ≤ 1312 =
-        omega (arith, tags_few c.head_for-head.result.code) in
+    omega (arith, tags_few c.head_for-head.result.code) in
     let m = c.requires.message in
     record {
       engine_tables = c.tables-t.ensures;
@@ -30,10 +30,10 @@ unfolding tag_head
 write_file-requires c =
     let code_is : c.head_for-head.result.code ≡ c.args.code = ap (λ (h : Head). h.code) c.head_for-head.ensures in
     let count-is : c.head_for-head.result.count ≡ item_count c.args.s.now =
-        ap (λ (h : Head). h.count) c.head_for-head.ensures in
+    ap (λ (h : Head). h.count) c.head_for-head.ensures in
     let code-known : known c.head_for-head.result.code ≡ true = ap known code_is ∙ c.requires.code in
     let few : 16 * (family_of c.head_for-head.result.code).tags ≤ 1312 =
-        omega (arith, tags_few c.head_for-head.result.code) in
+    omega (arith, tags_few c.head_for-head.result.code) in
     record {
       engine_tables = c.tables-t.ensures;
       code_value = code-known;
@@ -45,7 +45,7 @@ pub returns : goal.returns
 unfolding tag_head
 returns c =
     let few : 16 * (family_of c.head_for-head.result.code).tags ≤ 1312 =
-        omega (arith, tags_few c.head_for-head.result.code) in
+    omega (arith, tags_few c.head_for-head.result.code) in
     let k = c.keys_in-k.result in
     let g = c.head_for-head.result in
     let sums = summed_zeros (family_of g.code).tags (tag_sum k g.stamp g.code (item c.args.s.now) (item_count c.args.s.now)) _ _

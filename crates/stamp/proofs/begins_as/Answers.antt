@@ -25,7 +25,7 @@ returns-then-s-front_size c =
 pub returns-then-version-ge1 : goal.returns-then-version-ge1
 returns-then-version-ge1 c =
     let decides : begins_as c.args.letters.now c.args.newest (front_size (version_of c.args.s.now) + c.args.rest) c.args.s.now ≡ inside c.args.newest c.version_of-version.result =
-        let s = c.args.s.now in
+    let s = c.args.s.now in
     let e = c.front_size.ensures.0 ∙ ap front_size c.version_of-version.ensures in
     begins_as_yes c.args.letters.now c.args.newest s _ (omega arith) ((bytes_decides _ _).0 (not-false _ (sym c.ne.ensures ∙ c.if-ne.false)))
     ∙ ap (inside c.args.newest) (sym c.version_of-version.ensures) in
@@ -34,7 +34,7 @@ returns-then-version-ge1 c =
 pub returns-else-version-ge1 : goal.returns-else-version-ge1
 returns-else-version-ge1 c =
     let decides : begins_as c.args.letters.now c.args.newest (front_size (version_of c.args.s.now) + c.args.rest) c.args.s.now ≡ inside c.args.newest c.version_of-version.result =
-        let s = c.args.s.now in
+    let s = c.args.s.now in
     let e = c.front_size.ensures.0 ∙ ap front_size c.version_of-version.ensures in
     begins_as_yes c.args.letters.now c.args.newest s _ (omega arith) ((bytes_decides _ _).0 (not-false _ (sym c.ne.ensures ∙ c.if-ne.false)))
     ∙ ap (inside c.args.newest) (sym c.version_of-version.ensures) in

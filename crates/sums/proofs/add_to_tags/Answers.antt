@@ -25,7 +25,7 @@ pub overflow_sub-t : goal.overflow_sub-t
 overflow_sub-t c =
     let F : Family = family_of c.args.code in
     let here : Member (λ t. F.on (F.row_of_tag t) c.args.j) F.tags c.loop-k.k (get_or c.tags_of-n.new.out c.loop-k.k 0) =
-        tag_is F c.args.j c.loop-k.k _ (written_at (tags_of F c.args.j) _ (c.tags_of-n.ensures.written, c.tags_of-n.ensures.count) c.loop-k.k c.loop-k-test.true)
+    tag_is F c.args.j c.loop-k.k _ (written_at (tags_of F c.args.j) _ (c.tags_of-n.ensures.written, c.tags_of-n.ensures.count) c.loop-k.k c.loop-k-test.true)
     (omega (arith, c.tags_of-n.ensures.count, c.loop-k-test.true)) in
     omega (arith, here.low)
 
@@ -33,7 +33,7 @@ pub overflow_mul-t : goal.overflow_mul-t
 overflow_mul-t c =
     let F : Family = family_of c.args.code in
     let here : Member (λ t. F.on (F.row_of_tag t) c.args.j) F.tags c.loop-k.k (get_or c.tags_of-n.new.out c.loop-k.k 0) =
-        tag_is F c.args.j c.loop-k.k _ (written_at (tags_of F c.args.j) _ (c.tags_of-n.ensures.written, c.tags_of-n.ensures.count) c.loop-k.k c.loop-k-test.true)
+    tag_is F c.args.j c.loop-k.k _ (written_at (tags_of F c.args.j) _ (c.tags_of-n.ensures.written, c.tags_of-n.ensures.count) c.loop-k.k c.loop-k-test.true)
     (omega (arith, c.tags_of-n.ensures.count, c.loop-k-test.true)) in
     omega (arith, here.high, tags_few c.args.code)
 
@@ -41,7 +41,7 @@ pub xor_at-requires : goal.xor_at-requires
 xor_at-requires c =
     let F : Family = family_of c.args.code in
     let here : Member (λ t. F.on (F.row_of_tag t) c.args.j) F.tags c.loop-k.k (get_or c.tags_of-n.new.out c.loop-k.k 0) =
-        tag_is F c.args.j c.loop-k.k _ (written_at (tags_of F c.args.j) _ (c.tags_of-n.ensures.written, c.tags_of-n.ensures.count) c.loop-k.k c.loop-k-test.true)
+    tag_is F c.args.j c.loop-k.k _ (written_at (tags_of F c.args.j) _ (c.tags_of-n.ensures.written, c.tags_of-n.ensures.count) c.loop-k.k c.loop-k-test.true)
     (omega (arith, c.tags_of-n.ensures.count, c.loop-k-test.true)) in
     omega (arith, here.low, here.high, c.loop-k.invariant.size, c.requires.code_in_bounds)
 
@@ -49,7 +49,7 @@ pub loop-k-preserved : goal.loop-k-preserved
 loop-k-preserved c =
     let F : Family = family_of c.args.code in
     let here : Member (λ t. F.on (F.row_of_tag t) c.args.j) F.tags c.loop-k.k (get_or c.tags_of-n.new.out c.loop-k.k 0) =
-        tag_is F c.args.j c.loop-k.k _ (written_at (tags_of F c.args.j) _ (c.tags_of-n.ensures.written, c.tags_of-n.ensures.count) c.loop-k.k c.loop-k-test.true)
+    tag_is F c.args.j c.loop-k.k _ (written_at (tags_of F c.args.j) _ (c.tags_of-n.ensures.written, c.tags_of-n.ensures.count) c.loop-k.k c.loop-k-test.true)
     (omega (arith, c.tags_of-n.ensures.count, c.loop-k-test.true)) in
     let l = c.loop-k in
     let h : length c.args.value ≡ 16 = search rules in

@@ -41,8 +41,7 @@ loop-k-preserved-then-tag_of_row-eq0 c =
 pub loop-k-preserved : goal.loop-k-preserved
 loop-k-preserved c =
     let inside : c.loop-k.k + 1 ≤ (family_of c.args.code).rows = omega (arith, c.loop-k.invariant.0, c.loop-k-test.true) in
-    let l = c.loop-k in
-    (
+    let l = c.loop-k in (
       l.invariant.0,
       omega (arith, c.loop-k-test.true),
       fill_stays (family_of c.args.code) (lawful c.args.code c.requires.code_value) _ l.sums l.k _ refl inside l.invariant.2

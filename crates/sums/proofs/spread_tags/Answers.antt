@@ -20,27 +20,27 @@ pub overflow_mul-t : goal.overflow_mul-t
 overflow_mul-t c =
     let small : 16 * c.loop-i.i ≤ 4368 = omega (arith, c.loop-i.invariant.0, rows_few c.args.code) in
     let before : c.tag_of_row-t.result ≤ c.loop-i.i =
-        omega (arith, c.tag_of_row-t.ensures, tag_before c.args.code c.loop-i.i) in
+    omega (arith, c.tag_of_row-t.ensures, tag_before c.args.code c.loop-i.i) in
     omega (arith, small, before)
 
 pub block_at-requires : goal.block_at-requires
 block_at-requires c =
     let room : 16 * c.loop-i.i ≤ length c.loop-i.sums =
-        omega (arith, c.loop-i.invariant.0, c.loop-i.invariant.1.size, c.requires) in
+    omega (arith, c.loop-i.invariant.0, c.loop-i.invariant.1.size, c.requires) in
     let before : c.tag_of_row-t.result ≤ c.loop-i.i =
-        omega (arith, c.tag_of_row-t.ensures, tag_before c.args.code c.loop-i.i) in
+    omega (arith, c.tag_of_row-t.ensures, tag_before c.args.code c.loop-i.i) in
     omega (arith, c.if-t-ne0.true, room, before)
 
 pub put_at-requires : goal.put_at-requires
 put_at-requires c =
     let room : 16 * c.loop-i.i ≤ length c.loop-i.sums =
-        omega (arith, c.loop-i.invariant.0, c.loop-i.invariant.1.size, c.requires) in
+    omega (arith, c.loop-i.invariant.0, c.loop-i.invariant.1.size, c.requires) in
     omega (arith, c.loop-i-test.true, room)
 
 pub loop-i-preserved-then-t-ne0 : goal.loop-i-preserved-then-t-ne0
 loop-i-preserved-then-t-ne0 c =
     let before : c.tag_of_row-t.result ≤ c.loop-i.i =
-        omega (arith, c.tag_of_row-t.ensures, tag_before c.args.code c.loop-i.i) in
+    omega (arith, c.tag_of_row-t.ensures, tag_before c.args.code c.loop-i.i) in
     let l = c.loop-i in
     let h : length c.block_at.result ≡ 16 = search rules in (
       omega (arith, l.invariant.0),

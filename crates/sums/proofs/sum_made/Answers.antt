@@ -29,9 +29,9 @@ overflow_cast-a c =
     let F : Family = family_of c.args.code in
     let row : ℕ = get_or c.made_of-k.new.out (c.loop-k.k - 1) 0 in
     let row_is : row ≡ get_or (F.made c.args.i) (c.loop-k.k - 1) 0 =
-        written_at (F.made c.args.i) _ (c.made_of-k.ensures.written, c.made_of-k.ensures.count) (c.loop-k.k - 1) (omega (arith, c.loop-k-test.true, c.loop-k.invariant.0, c.made_of-k.ensures.count)) in
+    written_at (F.made c.args.i) _ (c.made_of-k.ensures.written, c.made_of-k.ensures.count) (c.loop-k.k - 1) (omega (arith, c.loop-k-test.true, c.loop-k.invariant.0, c.made_of-k.ensures.count)) in
     let earlier : (1 ≤ row) × (row < c.args.i) =
-        let e = earlier-at c.args.i (F.made c.args.i) ((lawful c.args.code c.requires.code_value).earlier c.args.i c.requires.le_i.0 c.requires.le_i.1 c.requires.le_i.2)
+    let e = earlier-at c.args.i (F.made c.args.i) ((lawful c.args.code c.requires.code_value).earlier c.args.i c.requires.le_i.0 c.requires.le_i.1 c.requires.le_i.2)
     (c.loop-k.k - 1) (omega (arith, c.loop-k-test.true, c.loop-k.invariant.0)) in
     (omega (arith, e.0, row_is), omega (arith, e.1, row_is)) in
     omega (arith, earlier.1, rows_few c.args.code, c.requires.le_i.1)
@@ -41,9 +41,9 @@ overflow_sub-a c =
     let F : Family = family_of c.args.code in
     let row : ℕ = get_or c.made_of-k.new.out (c.loop-k.k - 1) 0 in
     let row_is : row ≡ get_or (F.made c.args.i) (c.loop-k.k - 1) 0 =
-        written_at (F.made c.args.i) _ (c.made_of-k.ensures.written, c.made_of-k.ensures.count) (c.loop-k.k - 1) (omega (arith, c.loop-k-test.true, c.loop-k.invariant.0, c.made_of-k.ensures.count)) in
+    written_at (F.made c.args.i) _ (c.made_of-k.ensures.written, c.made_of-k.ensures.count) (c.loop-k.k - 1) (omega (arith, c.loop-k-test.true, c.loop-k.invariant.0, c.made_of-k.ensures.count)) in
     let earlier : (1 ≤ row) × (row < c.args.i) =
-        let e = earlier-at c.args.i (F.made c.args.i) ((lawful c.args.code c.requires.code_value).earlier c.args.i c.requires.le_i.0 c.requires.le_i.1 c.requires.le_i.2)
+    let e = earlier-at c.args.i (F.made c.args.i) ((lawful c.args.code c.requires.code_value).earlier c.args.i c.requires.le_i.0 c.requires.le_i.1 c.requires.le_i.2)
     (c.loop-k.k - 1) (omega (arith, c.loop-k-test.true, c.loop-k.invariant.0)) in
     (omega (arith, e.0, row_is), omega (arith, e.1, row_is)) in
     omega (arith, earlier.0)
@@ -53,9 +53,9 @@ overflow_mul-a c =
     let F : Family = family_of c.args.code in
     let row : ℕ = get_or c.made_of-k.new.out (c.loop-k.k - 1) 0 in
     let row_is : row ≡ get_or (F.made c.args.i) (c.loop-k.k - 1) 0 =
-        written_at (F.made c.args.i) _ (c.made_of-k.ensures.written, c.made_of-k.ensures.count) (c.loop-k.k - 1) (omega (arith, c.loop-k-test.true, c.loop-k.invariant.0, c.made_of-k.ensures.count)) in
+    written_at (F.made c.args.i) _ (c.made_of-k.ensures.written, c.made_of-k.ensures.count) (c.loop-k.k - 1) (omega (arith, c.loop-k-test.true, c.loop-k.invariant.0, c.made_of-k.ensures.count)) in
     let earlier : (1 ≤ row) × (row < c.args.i) =
-        let e = earlier-at c.args.i (F.made c.args.i) ((lawful c.args.code c.requires.code_value).earlier c.args.i c.requires.le_i.0 c.requires.le_i.1 c.requires.le_i.2)
+    let e = earlier-at c.args.i (F.made c.args.i) ((lawful c.args.code c.requires.code_value).earlier c.args.i c.requires.le_i.0 c.requires.le_i.1 c.requires.le_i.2)
     (c.loop-k.k - 1) (omega (arith, c.loop-k-test.true, c.loop-k.invariant.0)) in
     (omega (arith, e.0, row_is), omega (arith, e.1, row_is)) in
     omega (arith, earlier.1, rows_few c.args.code, c.requires.le_i.1)
@@ -65,9 +65,9 @@ block_at-requires c =
     let F : Family = family_of c.args.code in
     let row : ℕ = get_or c.made_of-k.new.out (c.loop-k.k - 1) 0 in
     let row_is : row ≡ get_or (F.made c.args.i) (c.loop-k.k - 1) 0 =
-        written_at (F.made c.args.i) _ (c.made_of-k.ensures.written, c.made_of-k.ensures.count) (c.loop-k.k - 1) (omega (arith, c.loop-k-test.true, c.loop-k.invariant.0, c.made_of-k.ensures.count)) in
+    written_at (F.made c.args.i) _ (c.made_of-k.ensures.written, c.made_of-k.ensures.count) (c.loop-k.k - 1) (omega (arith, c.loop-k-test.true, c.loop-k.invariant.0, c.made_of-k.ensures.count)) in
     let earlier : (1 ≤ row) × (row < c.args.i) =
-        let e = earlier-at c.args.i (F.made c.args.i) ((lawful c.args.code c.requires.code_value).earlier c.args.i c.requires.le_i.0 c.requires.le_i.1 c.requires.le_i.2)
+    let e = earlier-at c.args.i (F.made c.args.i) ((lawful c.args.code c.requires.code_value).earlier c.args.i c.requires.le_i.0 c.requires.le_i.1 c.requires.le_i.2)
     (c.loop-k.k - 1) (omega (arith, c.loop-k-test.true, c.loop-k.invariant.0)) in
     (omega (arith, e.0, row_is), omega (arith, e.1, row_is)) in
     omega (arith, earlier.0, earlier.1, c.requires.le_i.1, c.requires.code_in_bounds)
@@ -78,7 +78,7 @@ loop-k-preserved c =
     let F : Family = family_of c.args.code in
     let row : ℕ = get_or c.made_of-k.new.out (c.loop-k.k - 1) 0 in
     let row_is : row ≡ get_or (F.made c.args.i) (c.loop-k.k - 1) 0 =
-        written_at (F.made c.args.i) _ (c.made_of-k.ensures.written, c.made_of-k.ensures.count) (c.loop-k.k - 1) (omega (arith, c.loop-k-test.true, c.loop-k.invariant.0, c.made_of-k.ensures.count)) in
+    written_at (F.made c.args.i) _ (c.made_of-k.ensures.written, c.made_of-k.ensures.count) (c.loop-k.k - 1) (omega (arith, c.loop-k-test.true, c.loop-k.invariant.0, c.made_of-k.ensures.count)) in
     let l = c.loop-k in
     let s = c.args.sums.now in (
       omega (arith, l.invariant.0),

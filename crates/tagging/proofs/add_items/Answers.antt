@@ -23,25 +23,25 @@ loop-c-init c =
 pub overflow_add-start : goal.overflow_add-start
 overflow_add-start c =
     let here : Fits c.args.s.now c.loop-c.c.at =
-        fits_here c.args.s.now c.requires.s_in_bounds.2 c.item_count-n.result c.loop-c.c.at c.loop-c.c.passed c.item_count-n.ensures.0 c.loop-c.invariant.1 c.loop-c-test.true in
+    fits_here c.args.s.now c.requires.s_in_bounds.2 c.item_count-n.result c.loop-c.c.at c.loop-c.c.passed c.item_count-n.ensures.0 c.loop-c.invariant.1 c.loop-c-test.true in
     omega (arith, here.head, c.requires.s_in_bounds.1)
 
 pub next-c-requires : goal.next-c-requires
 next-c-requires c =
     let here : Fits c.args.s.now c.loop-c.c.at =
-        fits_here c.args.s.now c.requires.s_in_bounds.2 c.item_count-n.result c.loop-c.c.at c.loop-c.c.passed c.item_count-n.ensures.0 c.loop-c.invariant.1 c.loop-c-test.true in
+    fits_here c.args.s.now c.requires.s_in_bounds.2 c.item_count-n.result c.loop-c.c.at c.loop-c.c.passed c.item_count-n.ensures.0 c.loop-c.invariant.1 c.loop-c-test.true in
     (here.head, omega (arith, c.item_count-n.ensures.1, c.loop-c-test.true), c.requires.s_in_bounds.1)
 
 pub slice_bounds-add_item-end : goal.slice_bounds-add_item-end
 slice_bounds-add_item-end c =
     let here : Fits c.args.s.now c.loop-c.c.at =
-        fits_here c.args.s.now c.requires.s_in_bounds.2 c.item_count-n.result c.loop-c.c.at c.loop-c.c.passed c.item_count-n.ensures.0 c.loop-c.invariant.1 c.loop-c-test.true in
+    fits_here c.args.s.now c.requires.s_in_bounds.2 c.item_count-n.result c.loop-c.c.at c.loop-c.c.passed c.item_count-n.ensures.0 c.loop-c.invariant.1 c.loop-c-test.true in
     omega (arith, here.room, c.next-c.ensures.0)
 
 pub add_item-requires : goal.add_item-requires
 add_item-requires c =
     let here : Fits c.args.s.now c.loop-c.c.at =
-        fits_here c.args.s.now c.requires.s_in_bounds.2 c.item_count-n.result c.loop-c.c.at c.loop-c.c.passed c.item_count-n.ensures.0 c.loop-c.invariant.1 c.loop-c-test.true in
+    fits_here c.args.s.now c.requires.s_in_bounds.2 c.item_count-n.result c.loop-c.c.at c.loop-c.c.passed c.item_count-n.ensures.0 c.loop-c.invariant.1 c.loop-c-test.true in
     record {
       engine_tables = c.requires.engine_tables;
       code_value = c.requires.code_value;

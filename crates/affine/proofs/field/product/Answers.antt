@@ -16,44 +16,44 @@ under l h = omega arith
 pub times_x-twice-requires : goal.times_x-twice-requires
 times_x-twice-requires c =
     let once-low : c.args.a % c.elements-q.result < 2 ^ c.args.s =
-        rw c.elements-q.ensures (reduced-low c.args.s c.requires c.args.a) in
+    rw c.elements-q.ensures (reduced-low c.args.s c.requires c.args.a) in
     record { s_value = c.requires; a_bound = once-low }
 
 pub times_x-fourfold-requires : goal.times_x-fourfold-requires
 times_x-fourfold-requires c =
     let once-low : c.args.a % c.elements-q.result < 2 ^ c.args.s =
-        rw c.elements-q.ensures (reduced-low c.args.s c.requires c.args.a) in
+    rw c.elements-q.ensures (reduced-low c.args.s c.requires c.args.a) in
     let twice-low : c.times_x-twice.result < 2 ^ c.args.s =
-        rw c.times_x-twice.ensures (times_small _ c.requires _ once-low) in
+    rw c.times_x-twice.ensures (times_small _ c.requires _ once-low) in
     record { s_value = c.requires; a_bound = twice-low }
 
 pub overflow_mul-result : goal.overflow_mul-result
 overflow_mul-result c =
     let once-low : c.args.a % c.elements-q.result < 2 ^ c.args.s =
-        rw c.elements-q.ensures (reduced-low c.args.s c.requires c.args.a) in
+    rw c.elements-q.ensures (reduced-low c.args.s c.requires c.args.a) in
     let few : 2 ^ c.args.s ≤ 8 = (elements_few c.args.s c.requires).1 in
     omega (arith, bit_times _ _ (mod-lt (c.args.b % c.elements-q.result) (zero-lt-suc 1)) (under once-low few))
 
 pub overflow_mul-result-2 : goal.overflow_mul-result-2
 overflow_mul-result-2 c =
     let once-low : c.args.a % c.elements-q.result < 2 ^ c.args.s =
-        rw c.elements-q.ensures (reduced-low c.args.s c.requires c.args.a) in
+    rw c.elements-q.ensures (reduced-low c.args.s c.requires c.args.a) in
     let few : 2 ^ c.args.s ≤ 8 = (elements_few c.args.s c.requires).1 in
     let twice-low : c.times_x-twice.result < 2 ^ c.args.s =
-        rw c.times_x-twice.ensures (times_small _ c.requires _ once-low) in
+    rw c.times_x-twice.ensures (times_small _ c.requires _ once-low) in
     omega (arith, bit_times _ _ (mod-lt (c.args.b % c.elements-q.result / 2) (zero-lt-suc 1)) (under twice-low few))
 
 pub overflow_mul-result-3 : goal.overflow_mul-result-3
 overflow_mul-result-3 c =
     let once-low : c.args.a % c.elements-q.result < 2 ^ c.args.s =
-        rw c.elements-q.ensures (reduced-low c.args.s c.requires c.args.a) in
+    rw c.elements-q.ensures (reduced-low c.args.s c.requires c.args.a) in
     let by-low : c.args.b % c.elements-q.result < 2 ^ c.args.s =
-        rw c.elements-q.ensures (reduced-low c.args.s c.requires c.args.b) in
+    rw c.elements-q.ensures (reduced-low c.args.s c.requires c.args.b) in
     let few : 2 ^ c.args.s ≤ 8 = (elements_few c.args.s c.requires).1 in
     let twice-low : c.times_x-twice.result < 2 ^ c.args.s =
-        rw c.times_x-twice.ensures (times_small _ c.requires _ once-low) in
+    rw c.times_x-twice.ensures (times_small _ c.requires _ once-low) in
     let fourfold-low : c.times_x-fourfold.result < 2 ^ c.args.s =
-        rw c.times_x-fourfold.ensures (times_small _ c.requires _ twice-low) in
+    rw c.times_x-fourfold.ensures (times_small _ c.requires _ twice-low) in
     let low : c.args.b % c.elements-q.result / 4 < 2 = omega (arith, by-low, few) in
     omega (arith, bit_times _ _ low (under fourfold-low few))
 
@@ -61,9 +61,9 @@ pub returns : goal.returns
 unfolding product
 returns c =
     let once-low : c.args.a % c.elements-q.result < 2 ^ c.args.s =
-        rw c.elements-q.ensures (reduced-low c.args.s c.requires c.args.a) in
+    rw c.elements-q.ensures (reduced-low c.args.s c.requires c.args.a) in
     let by-low : c.args.b % c.elements-q.result < 2 ^ c.args.s =
-        rw c.elements-q.ensures (reduced-low c.args.s c.requires c.args.b) in
+    rw c.elements-q.ensures (reduced-low c.args.s c.requires c.args.b) in
     rw (c.times_x-fourfold.ensures, c.times_x-twice.ensures)
     (product_is _ c.requires _ _ once-low by-low
     ∙ rw c.elements-q.ensures)

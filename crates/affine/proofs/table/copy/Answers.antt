@@ -13,13 +13,12 @@ pub bounds-out-k : goal.bounds-out-k
 bounds-out-k c = omega (arith, c.loop-k-test.true, c.loop-k.invariant.1, c.requires.0, c.requires.1)
 
 pub loop-k-preserved : goal.loop-k-preserved
-loop-k-preserved c =
-    (
-      omega arith,
-      search rules,
-      part_turn c.loop-k.k c.args.from.now c.args.out.now c.loop-k.out _ c.loop-k.invariant.2
-          (omega (arith, c.loop-k-test.true, c.requires.0, c.requires.1)) (omega (arith, c.loop-k-test.true)) refl,
-    )
+loop-k-preserved c = (
+  omega arith,
+  search rules,
+  part_turn c.loop-k.k c.args.from.now c.args.out.now c.loop-k.out _ c.loop-k.invariant.2
+      (omega (arith, c.loop-k-test.true, c.requires.0, c.requires.1)) (omega (arith, c.loop-k-test.true)) refl,
+)
 
 pub returns : goal.returns
 returns c =

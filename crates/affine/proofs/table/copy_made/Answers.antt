@@ -9,12 +9,11 @@ slice_bounds-copy-end c =
     made_room c.args.s c.args.l c.requires.made_in c.skip-at.ensures.past c.wide_entry-start.ensures.read c.index.ensures c.entry.ensures.read
 
 pub copy-requires : goal.copy-requires
-copy-requires c =
-    (
-      rw (made_part c.args.s c.args.l c.requires.made_in c.skip-at.ensures.past c.wide_entry-start.ensures.read c.index.ensures c.entry.ensures.read)
-          (made_few c.args.s c.args.l c.requires.l_value c.args.i c.requires.le_i.0 c.requires.le_i.1),
-      c.requires.le_i.2,
-    )
+copy-requires c = (
+  rw (made_part c.args.s c.args.l c.requires.made_in c.skip-at.ensures.past c.wide_entry-start.ensures.read c.index.ensures c.entry.ensures.read)
+      (made_few c.args.s c.args.l c.requires.l_value c.args.i c.requires.le_i.0 c.requires.le_i.1),
+  c.requires.le_i.2,
+)
 
 pub returns : goal.returns
 returns c =
@@ -25,19 +24,19 @@ returns c =
 pub overflow_mul-index : goal.overflow_mul-index
 overflow_mul-index c =
     let low : 8 * c.index.result + (c.args.i - 1) / 8 < 80 =
-        omega (arith, c.index.ensures, index_high c.args.s c.args.l c.requires.l_value, c.requires.le_i.1, rows-high c.args.s c.args.l c.requires.l_value) in
+    omega (arith, c.index.ensures, index_high c.args.s c.args.l c.requires.l_value, c.requires.le_i.1, rows-high c.args.s c.args.l c.requires.l_value) in
     omega (arith, low)
 
 pub overflow_add-index : goal.overflow_add-index
 overflow_add-index c =
     let low : 8 * c.index.result + (c.args.i - 1) / 8 < 80 =
-        omega (arith, c.index.ensures, index_high c.args.s c.args.l c.requires.l_value, c.requires.le_i.1, rows-high c.args.s c.args.l c.requires.l_value) in
+    omega (arith, c.index.ensures, index_high c.args.s c.args.l c.requires.l_value, c.requires.le_i.1, rows-high c.args.s c.args.l c.requires.l_value) in
     omega (arith, low)
 
 pub wide_entry-start-requires : goal.wide_entry-start-requires
 wide_entry-start-requires c =
     let low : 8 * c.index.result + (c.args.i - 1) / 8 < 80 =
-        omega (arith, c.index.ensures, index_high c.args.s c.args.l c.requires.l_value, c.requires.le_i.1, rows-high c.args.s c.args.l c.requires.l_value) in
+    omega (arith, c.index.ensures, index_high c.args.s c.args.l c.requires.l_value, c.requires.le_i.1, rows-high c.args.s c.args.l c.requires.l_value) in
     low
 
 pub skip-at-requires : goal.skip-at-requires

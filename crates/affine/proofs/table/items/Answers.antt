@@ -12,21 +12,21 @@ pub overflow_mul-result : goal.overflow_mul-result
 unfolding points
 overflow_mul-result c =
     let square : (16 ≤ c.elements-q.result * c.elements-q.result) × (c.elements-q.result * c.elements-q.result ≤ 64) =
-        rw c.elements-q.ensures (points_few c.args.s (sized-offered _ _ c.requires)) in
+    rw c.elements-q.ensures (points_few c.args.s (sized-offered _ _ c.requires)) in
     omega (arith, square.1)
 
 pub overflow_sub-result : goal.overflow_sub-result
 unfolding points
 overflow_sub-result c =
     let square : (16 ≤ c.elements-q.result * c.elements-q.result) × (c.elements-q.result * c.elements-q.result ≤ 64) =
-        rw c.elements-q.ensures (points_few c.args.s (sized-offered _ _ c.requires)) in
+    rw c.elements-q.ensures (points_few c.args.s (sized-offered _ _ c.requires)) in
     omega (arith, square.0)
 
 pub overflow_add-result : goal.overflow_add-result
 unfolding points
 overflow_add-result c =
     let square : (16 ≤ c.elements-q.result * c.elements-q.result) × (c.elements-q.result * c.elements-q.result ≤ 64) =
-        rw c.elements-q.ensures (points_few c.args.s (sized-offered _ _ c.requires)) in
+    rw c.elements-q.ensures (points_few c.args.s (sized-offered _ _ c.requires)) in
     let a = c.args in
     omega (arith, square.1, sized-high a.s a.l c.requires, (elements_few a.s (sized-offered _ _ c.requires)).1)
 

@@ -12,17 +12,17 @@ returns c =
 pub overflow_mul-at : goal.overflow_mul-at
 overflow_mul-at c =
     let few : c.index-at.result ≤ 9 =
-        omega (arith, c.index-at.ensures, index_high c.args.s c.args.l c.requires.l_value) in
+    omega (arith, c.index-at.ensures, index_high c.args.s c.args.l c.requires.l_value) in
     omega (arith, few)
 
 pub overflow_add-result : goal.overflow_add-result
 overflow_add-result c =
     let few : c.index-at.result ≤ 9 =
-        omega (arith, c.index-at.ensures, index_high c.args.s c.args.l c.requires.l_value) in
+    omega (arith, c.index-at.ensures, index_high c.args.s c.args.l c.requires.l_value) in
     omega (arith, few)
 
 pub slice_bounds-result-end : goal.slice_bounds-result-end
 slice_bounds-result-end c =
     let few : c.index-at.result ≤ 9 =
-        omega (arith, c.index-at.ensures, index_high c.args.s c.args.l c.requires.l_value) in
+    omega (arith, c.index-at.ensures, index_high c.args.s c.args.l c.requires.l_value) in
     omega (arith, few, c.requires.all_len)

@@ -10,14 +10,14 @@ use Rattle.affine.proofs.table.point_of.Goals as goal
 pub overflow_mul-k : goal.overflow_mul-k
 overflow_mul-k c =
     let place : 64 * c.index.result + (c.args.i - 1) < 640 =
-        let a = c.args in
+    let a = c.args in
     omega (arith, c.index.ensures, index_high a.s a.l c.requires.l_value, c.requires.le_i, rows-high a.s a.l c.requires.l_value) in
     omega (arith, place)
 
 pub overflow_add-k : goal.overflow_add-k
 overflow_add-k c =
     let place : 64 * c.index.result + (c.args.i - 1) < 640 =
-        let a = c.args in
+    let a = c.args in
     omega (arith, c.index.ensures, index_high a.s a.l c.requires.l_value, c.requires.le_i, rows-high a.s a.l c.requires.l_value) in
     omega (arith, place)
 

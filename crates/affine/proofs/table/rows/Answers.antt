@@ -15,7 +15,7 @@ pub overflow_mul-result : goal.overflow_mul-result
 unfolding affine_family
 overflow_mul-result c =
     let counted : (affine_family c.args.s c.args.l).rows ≡ c.args.l * (c.elements.result - 1) + 1 =
-        row_count_lem _ _ c.requires ∙ ap (λ (q : ℕ). c.args.l * (q - 1) + 1) (sym c.elements.ensures) in
+    row_count_lem _ _ c.requires ∙ ap (λ (q : ℕ). c.args.l * (q - 1) + 1) (sym c.elements.ensures) in
     let few : (affine_family c.args.s c.args.l).rows ≤ 64 = rows-high _ _ c.requires in
     omega (arith, counted, few)
 
@@ -23,7 +23,7 @@ pub overflow_add-result : goal.overflow_add-result
 unfolding affine_family
 overflow_add-result c =
     let counted : (affine_family c.args.s c.args.l).rows ≡ c.args.l * (c.elements.result - 1) + 1 =
-        row_count_lem _ _ c.requires ∙ ap (λ (q : ℕ). c.args.l * (q - 1) + 1) (sym c.elements.ensures) in
+    row_count_lem _ _ c.requires ∙ ap (λ (q : ℕ). c.args.l * (q - 1) + 1) (sym c.elements.ensures) in
     let few : (affine_family c.args.s c.args.l).rows ≤ 64 = rows-high _ _ c.requires in
     omega (arith, counted, few)
 
@@ -31,5 +31,5 @@ pub returns : goal.returns
 unfolding affine_family
 returns c =
     let counted : (affine_family c.args.s c.args.l).rows ≡ c.args.l * (c.elements.result - 1) + 1 =
-        row_count_lem _ _ c.requires ∙ ap (λ (q : ℕ). c.args.l * (q - 1) + 1) (sym c.elements.ensures) in
+    row_count_lem _ _ c.requires ∙ ap (λ (q : ℕ). c.args.l * (q - 1) + 1) (sym c.elements.ensures) in
     sym counted

@@ -31,20 +31,20 @@ returns c =
 pub nonzero_rem-x : goal.nonzero_rem-x
 nonzero_rem-x c =
     let some : (4 ≤ c.elements-q.result) × (c.elements-q.result ≤ 8) =
-        let e = elements_few c.args.s c.requires.s_value in
+    let e = elements_few c.args.s c.requires.s_value in
     (omega (arith, c.elements-q.ensures, e.0), omega (arith, c.elements-q.ensures, e.1)) in
     omega (arith, some.0)
 
 pub overflow_add-result : goal.overflow_add-result
 overflow_add-result c =
     let some : (4 ≤ c.elements-q.result) × (c.elements-q.result ≤ 8) =
-        let e = elements_few c.args.s c.requires.s_value in
+    let e = elements_few c.args.s c.requires.s_value in
     (omega (arith, c.elements-q.ensures, e.0), omega (arith, c.elements-q.ensures, e.1)) in
     omega (arith, some.1)
 
 pub nonzero_div-p : goal.nonzero_div-p
 nonzero_div-p c =
     let some : (4 ≤ c.elements-q.result) × (c.elements-q.result ≤ 8) =
-        let e = elements_few c.args.s c.requires.s_value in
+    let e = elements_few c.args.s c.requires.s_value in
     (omega (arith, c.elements-q.ensures, e.0), omega (arith, c.elements-q.ensures, e.1)) in
     omega (arith, some.0)

@@ -12,11 +12,11 @@ returns c = rw c.elements-q.ensures
 pub nonzero_div-result : goal.nonzero_div-result
 nonzero_div-result c =
     let some : 4 ≤ c.elements-q.result =
-        omega (arith, c.elements-q.ensures, (elements_few c.args.s c.requires.s_value).0) in
+    omega (arith, c.elements-q.ensures, (elements_few c.args.s c.requires.s_value).0) in
     omega (arith, some)
 
 pub nonzero_rem-result : goal.nonzero_rem-result
 nonzero_rem-result c =
     let some : 4 ≤ c.elements-q.result =
-        omega (arith, c.elements-q.ensures, (elements_few c.args.s c.requires.s_value).0) in
+    omega (arith, c.elements-q.ensures, (elements_few c.args.s c.requires.s_value).0) in
     omega (arith, some)

@@ -21,10 +21,10 @@ pub place_on-requires : goal.place_on-requires
 unfolding through_count
 place_on-requires c =
     let place : c.args.k - 1 < 2 ^ c.args.s =
-        let e : c.args.k < 2 ^ c.args.s + 1 = rw (ne_eqb _ 1 c.if-p-eq1.false) at c.requires.le_p.2 in
+    let e : c.args.k < 2 ^ c.args.s + 1 = rw (ne_eqb _ 1 c.if-p-eq1.false) at c.requires.le_p.2 in
     omega (arith, c.if-k-eq0.false) in
     let start : c.args.course.start < 2 ^ c.args.s =
-        rw c.requires.le_p.1 (start_low c.args.s (sized-offered _ _ c.requires.l_value) _) in
+    rw c.requires.le_p.1 (start_low c.args.s (sized-offered _ _ c.requires.l_value) _) in
     record { s_value = sized-offered _ _ c.requires.l_value; start_bound = (start, place) }
 
 pub returns : goal.returns
@@ -40,28 +40,28 @@ pub overflow_add-result-2 : goal.overflow_add-result-2
 unfolding through_count
 overflow_add-result-2 c =
     let place : c.args.k - 1 < 2 ^ c.args.s =
-        let e : c.args.k < 2 ^ c.args.s + 1 = rw (ne_eqb _ 1 c.if-p-eq1.false) at c.requires.le_p.2 in
+    let e : c.args.k < 2 ^ c.args.s + 1 = rw (ne_eqb _ 1 c.if-p-eq1.false) at c.requires.le_p.2 in
     omega (arith, c.if-k-eq0.false) in
     let start : c.args.course.start < 2 ^ c.args.s =
-        rw c.requires.le_p.1 (start_low c.args.s (sized-offered _ _ c.requires.l_value) _) in
+    rw c.requires.le_p.1 (start_low c.args.s (sized-offered _ _ c.requires.l_value) _) in
     let point : (1 ≤ c.place_on.result) × (c.place_on.result ≤ 64) =
-        let here = sized-offered c.args.s c.args.l c.requires.l_value in
+    let here = sized-offered c.args.s c.args.l c.requires.l_value in
     let w = place_few c.args.s here c.args.course (c.args.k - 1) start place in
     rw c.place_on.ensures (w.0, omega (arith, w.1, (points_few c.args.s here).1)) in
     let few : c.args.l ≤ 9 =
-        omega (arith, sized-high c.args.s c.args.l c.requires.l_value, (elements_few c.args.s (sized-offered _ _ c.requires.l_value)).1) in
+    omega (arith, sized-high c.args.s c.args.l c.requires.l_value, (elements_few c.args.s (sized-offered _ _ c.requires.l_value)).1) in
     omega (arith, point.1, few)
 
 pub overflow_sub-result : goal.overflow_sub-result
 unfolding through_count
 overflow_sub-result c =
     let place : c.args.k - 1 < 2 ^ c.args.s =
-        let e : c.args.k < 2 ^ c.args.s + 1 = rw (ne_eqb _ 1 c.if-p-eq1.false) at c.requires.le_p.2 in
+    let e : c.args.k < 2 ^ c.args.s + 1 = rw (ne_eqb _ 1 c.if-p-eq1.false) at c.requires.le_p.2 in
     omega (arith, c.if-k-eq0.false) in
     let start : c.args.course.start < 2 ^ c.args.s =
-        rw c.requires.le_p.1 (start_low c.args.s (sized-offered _ _ c.requires.l_value) _) in
+    rw c.requires.le_p.1 (start_low c.args.s (sized-offered _ _ c.requires.l_value) _) in
     let point : (1 ≤ c.place_on.result) × (c.place_on.result ≤ 64) =
-        let here = sized-offered c.args.s c.args.l c.requires.l_value in
+    let here = sized-offered c.args.s c.args.l c.requires.l_value in
     let w = place_few c.args.s here c.args.course (c.args.k - 1) start place in
     rw c.place_on.ensures (w.0, omega (arith, w.1, (points_few c.args.s here).1)) in
     omega (arith, point.0)

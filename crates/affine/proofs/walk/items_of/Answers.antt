@@ -18,7 +18,7 @@ pub point_of-p-requires : goal.point_of-p-requires
 unfolding affine_family
 point_of-p-requires c =
     let row : inside (row_count c.args.s c.args.l) c.args.i ≡ true =
-        inside_of c.args.i c.rows.ensures c.inside.ensures c.if-inside.true in
+    inside_of c.args.i c.rows.ensures c.inside.ensures c.if-inside.true in
     record {
       l_value = c.requires.l_value;
       le_i = (inside-low _ c.args.i row, inside-high _ c.args.i row);
@@ -28,20 +28,20 @@ pub dual-requires : goal.dual-requires
 unfolding affine_family
 dual-requires c =
     let row : inside (row_count c.args.s c.args.l) c.args.i ≡ true =
-        inside_of c.args.i c.rows.ensures c.inside.ensures c.if-inside.true in
+    inside_of c.args.i c.rows.ensures c.inside.ensures c.if-inside.true in
     let low : 1 ≤ c.point_of-p.result =
-        rw c.point_of-p.ensures (point_low c.args.s c.args.l c.requires.l_value c.args.i (inside-low _ c.args.i row) (inside-high _ c.args.i row)) in
+    rw c.point_of-p.ensures (point_low c.args.s c.args.l c.requires.l_value c.args.i (inside-low _ c.args.i row) (inside-high _ c.args.i row)) in
     record { s_value = sized-offered _ _ c.requires.l_value; le_p = low }
 
 pub course_of-requires : goal.course_of-requires
 unfolding dual affine_family
 course_of-requires c =
     let row : inside (row_count c.args.s c.args.l) c.args.i ≡ true =
-        inside_of c.args.i c.rows.ensures c.inside.ensures c.if-inside.true in
+    inside_of c.args.i c.rows.ensures c.inside.ensures c.if-inside.true in
     let low : 1 ≤ c.point_of-p.result =
-        rw c.point_of-p.ensures (point_low c.args.s c.args.l c.requires.l_value c.args.i (inside-low _ c.args.i row) (inside-high _ c.args.i row)) in
+    rw c.point_of-p.ensures (point_low c.args.s c.args.l c.requires.l_value c.args.i (inside-low _ c.args.i row) (inside-high _ c.args.i row)) in
     let high : c.point_of-p.result ≤ points c.args.s =
-        rw c.point_of-p.ensures (point_high c.args.s c.args.l c.requires.l_value c.args.i (inside-low _ c.args.i row) (inside-high _ c.args.i row)) in
+    rw c.point_of-p.ensures (point_high c.args.s c.args.l c.requires.l_value c.args.i (inside-low _ c.args.i row) (inside-high _ c.args.i row)) in
     let f = F c.args.s c.args.l c.requires.l_value in
     record {
       s_value = sized-offered _ _ c.requires.l_value;
@@ -52,9 +52,9 @@ pub write_items-requires : goal.write_items-requires
 unfolding affine_family
 write_items-requires c =
     let row : inside (row_count c.args.s c.args.l) c.args.i ≡ true =
-        inside_of c.args.i c.rows.ensures c.inside.ensures c.if-inside.true in
+    inside_of c.args.i c.rows.ensures c.inside.ensures c.if-inside.true in
     let low : 1 ≤ c.point_of-p.result =
-        rw c.point_of-p.ensures (point_low c.args.s c.args.l c.requires.l_value c.args.i (inside-low _ c.args.i row) (inside-high _ c.args.i row)) in
+    rw c.point_of-p.ensures (point_low c.args.s c.args.l c.requires.l_value c.args.i (inside-low _ c.args.i row) (inside-high _ c.args.i row)) in
     record {
       l_value = c.requires.l_value;
       le_p = (low, c.course_of.ensures ∙ ap (course_of c.args.s) c.dual.ensures);
@@ -65,7 +65,7 @@ pub returns-then-inside : goal.returns-then-inside
 unfolding affine_family
 returns-then-inside c =
     let row : inside (row_count c.args.s c.args.l) c.args.i ≡ true =
-        inside_of c.args.i c.rows.ensures c.inside.ensures c.if-inside.true in
+    inside_of c.args.i c.rows.ensures c.inside.ensures c.if-inside.true in
     let i = c.args.i in
     let s = c.args.s in
     let l = c.args.l in

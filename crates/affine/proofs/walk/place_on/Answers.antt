@@ -21,34 +21,34 @@ returns c = rw (c.if-course.false, c.elements-q.ensures, c.product.ensures)
 pub overflow_mul-result : goal.overflow_mul-result
 overflow_mul-result c =
     let level : let b = c in b.args.course.start * b.elements-q.result + b.args.t + 1 ≤ 64 =
-        rw c.elements-q.ensures
+    rw c.elements-q.ensures
     (omega (arith, level_place c.args.s c.requires.s_value c.args.course c.args.t c.requires.start_bound.0 c.requires.start_bound.1, (points_few c.args.s c.requires.s_value).1)) in
     omega (arith, level)
 
 pub overflow_add-result : goal.overflow_add-result
 overflow_add-result c =
     let level : let b = c in b.args.course.start * b.elements-q.result + b.args.t + 1 ≤ 64 =
-        rw c.elements-q.ensures
+    rw c.elements-q.ensures
     (omega (arith, level_place c.args.s c.requires.s_value c.args.course c.args.t c.requires.start_bound.0 c.requires.start_bound.1, (points_few c.args.s c.requires.s_value).1)) in
     omega (arith, level)
 
 pub overflow_add-result-then-course : goal.overflow_add-result-then-course
 overflow_add-result-then-course c =
     let level : let b = c in b.args.course.start * b.elements-q.result + b.args.t + 1 ≤ 64 =
-        rw c.elements-q.ensures
+    rw c.elements-q.ensures
     (omega (arith, level_place c.args.s c.requires.s_value c.args.course c.args.t c.requires.start_bound.0 c.requires.start_bound.1, (points_few c.args.s c.requires.s_value).1)) in
     omega (arith, level)
 
 pub overflow_add-result-2 : goal.overflow_add-result-2
 overflow_add-result-2 c =
     let sloping : let b = c in b.args.t * b.elements-q.result + bit_xor b.args.course.start c.product.result + 1 ≤ 64 =
-        rw (c.elements-q.ensures, c.product.ensures)
+    rw (c.elements-q.ensures, c.product.ensures)
     (omega (arith, sloping_place c.args.s c.requires.s_value c.args.course c.args.t c.requires.start_bound.0 c.requires.start_bound.1, (points_few c.args.s c.requires.s_value).1)) in
     omega (arith, sloping)
 
 pub overflow_add-result-3 : goal.overflow_add-result-3
 overflow_add-result-3 c =
     let sloping : let b = c in b.args.t * b.elements-q.result + bit_xor b.args.course.start c.product.result + 1 ≤ 64 =
-        rw (c.elements-q.ensures, c.product.ensures)
+    rw (c.elements-q.ensures, c.product.ensures)
     (omega (arith, sloping_place c.args.s c.requires.s_value c.args.course c.args.t c.requires.start_bound.0 c.requires.start_bound.1, (points_few c.args.s c.requires.s_value).1)) in
     omega (arith, sloping)

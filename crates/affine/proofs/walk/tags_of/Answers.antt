@@ -19,14 +19,14 @@ pub line_of-requires : goal.line_of-requires
 unfolding affine_family
 line_of-requires c =
     let item : inside (affine_items c.args.s c.args.l) c.args.j ≡ true =
-        inside_of c.args.j c.items.ensures c.inside.ensures c.if-inside.true in
+    inside_of c.args.j c.items.ensures c.inside.ensures c.if-inside.true in
     record { s_value = sized-offered _ _ c.requires.l_value; le_j = inside-low _ c.args.j item }
 
 pub course_of-requires : goal.course_of-requires
 unfolding affine_family
 course_of-requires c =
     let item : inside (affine_items c.args.s c.args.l) c.args.j ≡ true =
-        inside_of c.args.j c.items.ensures c.inside.ensures c.if-inside.true in
+    inside_of c.args.j c.items.ensures c.inside.ensures c.if-inside.true in
     let j = c.args.j in
     let p = card_proper c.args.s c.args.l c.requires.l_value j (inside-low _ j item) (inside-high _ j item) in
     record { s_value = sized-offered _ _ c.requires.l_value; a_bound = rw c.line_of.ensures (p.low_a, p.low_b) }
@@ -42,7 +42,7 @@ pub returns-then-inside : goal.returns-then-inside
 unfolding part_test ranks tag_set tag_list row_tags entries point_tags_lem point_tags_test begins has size_index points x_of y_of on_line chosen is_row polynomial element_times_x product_over product affine_family
 returns-then-inside c =
     let item : inside (affine_items c.args.s c.args.l) c.args.j ≡ true =
-        inside_of c.args.j c.items.ensures c.inside.ensures c.if-inside.true in
+    inside_of c.args.j c.items.ensures c.inside.ensures c.if-inside.true in
     let a = c.args in
     let e : met a.s c.course_of.result c.part.result.now (2 ^ a.s) ≡ tags_of (affine_family a.s a.l) a.j =
     rw (c.course_of.ensures, c.line_of.ensures)

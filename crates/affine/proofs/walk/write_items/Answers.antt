@@ -17,13 +17,13 @@ item_at-requires c =
 pub bounds-out-k : goal.bounds-out-k
 bounds-out-k c =
     let few : c.item_count-n.result ≤ 9 =
-        omega (arith, c.item_count-n.ensures, count_nine c.args.s c.args.l c.args.p c.requires.l_value) in
+    omega (arith, c.item_count-n.ensures, count_nine c.args.s c.args.l c.args.p c.requires.l_value) in
     omega (arith, c.loop-k-test.true, c.loop-k.invariant.1, few, c.requires.in_bounds)
 
 pub loop-k-preserved : goal.loop-k-preserved
 loop-k-preserved c =
     let few : c.item_count-n.result ≤ 9 =
-        omega (arith, c.item_count-n.ensures, count_nine c.args.s c.args.l c.args.p c.requires.l_value) in
+    omega (arith, c.item_count-n.ensures, count_nine c.args.s c.args.l c.args.p c.requires.l_value) in
     let k = c.loop-k.k in
     let f = through_at c.args.s c.args.l c.args.p in
     let n = through_count c.args.s c.args.l c.args.p in (
@@ -49,5 +49,5 @@ item_count-n-requires c = sized-offered _ _ c.requires.l_value
 pub offset_bounds-out-k : goal.offset_bounds-out-k
 offset_bounds-out-k c =
     let few : c.item_count-n.result ≤ 9 =
-        omega (arith, c.item_count-n.ensures, count_nine c.args.s c.args.l c.args.p c.requires.l_value) in
+    omega (arith, c.item_count-n.ensures, count_nine c.args.s c.args.l c.args.p c.requires.l_value) in
     omega (arith, c.loop-k-test.true, few)

@@ -21,7 +21,7 @@ place_on-requires c =
 pub read-tag-requires : goal.read-tag-requires
 read-tag-requires c =
     let point : (1 ≤ c.place_on.result) × (c.place_on.result ≤ 64) =
-        let a = c.args in
+    let a = c.args in
     let w = place_few a.s c.requires.s_value a.course c.loop-t.t c.requires.start_bound.0 (omega (arith, c.loop-t-test.true, c.elements-q.ensures)) in
     rw c.place_on.ensures (w.0, omega (arith, w.1, (points_few a.s c.requires.s_value).1)) in
     omega (arith, point.0, point.1, c.requires.start_bound.1)
@@ -29,7 +29,7 @@ read-tag-requires c =
 pub bounds-out-n : goal.bounds-out-n
 bounds-out-n c =
     let room : let l = c in l.loop-t.n ≤ 7 =
-        let a = c.args in
+    let a = c.args in
     omega (
       arith,
       c.loop-t-test.true,
@@ -43,7 +43,7 @@ bounds-out-n c =
 pub loop-t-preserved : goal.loop-t-preserved
 loop-t-preserved c =
     let room : let l = c in l.loop-t.n ≤ 7 =
-        let a = c.args in
+    let a = c.args in
     omega (
       arith,
       c.loop-t-test.true,
@@ -53,24 +53,24 @@ loop-t-preserved c =
       met_few a.s a.course a.tags.now c.loop-t.t,
     ) in
     let entry : let a = c.args in c.read-tag.result ≡ get_or a.tags.now (place_on a.s a.course c.loop-t.t - 1) 0 =
-        let a = c.args in
+    let a = c.args in
     c.read-tag.ensures ∙ ap (λ (p : ℕ). get_or a.tags.now (p - 1) 0) c.place_on.ensures in
     let a = c.args in
     let o = a.out.now in
     let m = c.loop-t.invariant.2 in
     elim c.if-tag-ne0.branch [
-        then-tag-ne0 w ↦ (
-          omega arith,
-          rw w.out-is (length-set c.loop-t.out c.loop-t.n c.read-tag.result ∙ c.loop-t.invariant.1),
-          rw (w.out-is, w.n-is) (met-one a.s a.course a.tags.now c.loop-t.t o c.loop-t.out c.loop-t.n c.read-tag.result entry w.if-tag-ne0.true
-              (omega (arith, room, c.requires.start_bound.2, m.0)) m),
-        )
+      | then-tag-ne0 w ↦ (
+        omega arith,
+        rw w.out-is (length-set c.loop-t.out c.loop-t.n c.read-tag.result ∙ c.loop-t.invariant.1),
+        rw (w.out-is, w.n-is) (met-one a.s a.course a.tags.now c.loop-t.t o c.loop-t.out c.loop-t.n c.read-tag.result entry w.if-tag-ne0.true
+            (omega (arith, room, c.requires.start_bound.2, m.0)) m),
+      )
       | else-tag-ne0 w ↦ (
-          omega arith,
-          rw w.out-is c.loop-t.invariant.1,
-          rw (w.out-is, w.n-is) (met-none a.s a.course a.tags.now c.loop-t.t o c.loop-t.out c.loop-t.n c.read-tag.result entry
-              (omega (arith, w.if-tag-ne0.false)) m),
-        )
+        omega arith,
+        rw w.out-is c.loop-t.invariant.1,
+        rw (w.out-is, w.n-is) (met-none a.s a.course a.tags.now c.loop-t.t o c.loop-t.out c.loop-t.n c.read-tag.result entry
+            (omega (arith, w.if-tag-ne0.false)) m),
+      )
     ]
 
 pub returns : goal.returns
@@ -88,7 +88,7 @@ returns c =
 pub overflow_sub-place_on : goal.overflow_sub-place_on
 overflow_sub-place_on c =
     let point : (1 ≤ c.place_on.result) × (c.place_on.result ≤ 64) =
-        let a = c.args in
+    let a = c.args in
     let w = place_few a.s c.requires.s_value a.course c.loop-t.t c.requires.start_bound.0 (omega (arith, c.loop-t-test.true, c.elements-q.ensures)) in
     rw c.place_on.ensures (w.0, omega (arith, w.1, (points_few a.s c.requires.s_value).1)) in
     omega (arith, point.0)
@@ -96,7 +96,7 @@ overflow_sub-place_on c =
 pub offset_bounds-out-n : goal.offset_bounds-out-n
 offset_bounds-out-n c =
     let room : let l = c in l.loop-t.n ≤ 7 =
-        let a = c.args in
+    let a = c.args in
     omega (
       arith,
       c.loop-t-test.true,
@@ -110,7 +110,7 @@ offset_bounds-out-n c =
 pub overflow_add-n : goal.overflow_add-n
 overflow_add-n c =
     let room : let l = c in l.loop-t.n ≤ 7 =
-        let a = c.args in
+    let a = c.args in
     omega (
       arith,
       c.loop-t-test.true,

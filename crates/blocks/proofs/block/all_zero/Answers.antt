@@ -1,5 +1,5 @@
 -- Each turn looks at one block; those before it are zero (Zeros).
-use Rattle.fips197.proofs.Kit.{◌≡◌, refl, sym, ap, ◌∙◌, true, arith}
+use Rattle.fips197.proofs.Kit.{◌≡◌, refl, sym, ap, ◌∙◌, arith}
 use Rattle.blocks.specs.Block.{slot, all_zero}
 use Rattle.blocks.proofs.Zeros.{zeros-next, zeros_stop}
 use Rattle.blocks.proofs.block.all_zero.Goals as goal

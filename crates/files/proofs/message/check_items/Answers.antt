@@ -24,8 +24,7 @@ loop-c-preserved c =
     let s = c.args.s.now in
     let k = c.loop-c.c.passed in
     let at = c.loop-c.c.at in
-    let f = fits-so s at (sym c.fits.ensures ∙ c.if-fits.true) in
-    (
+    let f = fits-so s at (sym c.fits.ensures ∙ c.if-fits.true) in (
       omega arith,
       omega (arith, f.room, c.next-c.ensures.0),
       ap (refuse_items s) c.next-c.ensures.1 ∙ items_more s k at _ c.loop-c.invariant.2 c.loop-c.invariant.3 c.fits.ensures c.if-fits.true,

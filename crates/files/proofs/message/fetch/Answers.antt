@@ -1,6 +1,5 @@
 -- The item that Fetch does not refuse, or the empty part at the front (Messages).
 use Rattle.fips197.proofs.Kit.{refl, arith, rules}
-use Rattle.files.specs.Message.{number16}
 use Rattle.files.proofs.Messages.{fetched, unfetched, fetchable}
 use Rattle.files.proofs.message.fetch.Goals as goal
 

@@ -13,13 +13,13 @@ pub number16-requires : goal.number16-requires
 unfolding items_at
 number16-requires c =
     let place : c.front_size.result ≡ front_size (version_of c.args.s.now) =
-        c.front_size.ensures.0 ∙ ap front_size c.version_of.ensures in
+    c.front_size.ensures.0 ∙ ap front_size c.version_of.ensures in
     omega (arith, c.requires, place)
 
 pub returns : goal.returns
 unfolding item_count
 returns c =
     let place : c.front_size.result ≡ front_size (version_of c.args.s.now) =
-        c.front_size.ensures.0 ∙ ap front_size c.version_of.ensures in
+    c.front_size.ensures.0 ∙ ap front_size c.version_of.ensures in
     let s = c.args.s.now in
     (c.number16.ensures.0 ∙ ap (number16 s) place, c.number16.ensures.1)

@@ -14,7 +14,7 @@ pub bounds-s-at : goal.bounds-s-at
 unfolding tags_at stamp_of
 bounds-s-at c =
     let place : c.front_size-at.result ≡ front_size (version_of c.args.s.now) =
-        c.front_size-at.ensures.0 ∙ ap (λ (st : Stamp). front_size st.version) c.stamp_of-stamp.ensures in
+    c.front_size-at.ensures.0 ∙ ap (λ (st : Stamp). front_size st.version) c.stamp_of-stamp.ensures in
     omega (arith, place, c.requires)
 
 pub overflow_add-at : goal.overflow_add-at
@@ -24,14 +24,14 @@ pub number16-requires : goal.number16-requires
 unfolding tags_at stamp_of
 number16-requires c =
     let place : c.front_size-at.result ≡ front_size (version_of c.args.s.now) =
-        c.front_size-at.ensures.0 ∙ ap (λ (st : Stamp). front_size st.version) c.stamp_of-stamp.ensures in
+    c.front_size-at.ensures.0 ∙ ap (λ (st : Stamp). front_size st.version) c.stamp_of-stamp.ensures in
     omega (arith, place, c.requires)
 
 pub returns : goal.returns
 unfolding head_of code_of count_of stamp_of
 returns c =
     let place : c.front_size-at.result ≡ front_size (version_of c.args.s.now) =
-        c.front_size-at.ensures.0 ∙ ap (λ (st : Stamp). front_size st.version) c.stamp_of-stamp.ensures in
+    c.front_size-at.ensures.0 ∙ ap (λ (st : Stamp). front_size st.version) c.stamp_of-stamp.ensures in
     let s = c.args.s.now in
     let e = place in (
       (λ i. record {

@@ -13,7 +13,7 @@ pub returns : goal.returns
 unfolding tags_in
 returns c =
     let place : c.tags_at-at.result ≡ tags_at (version_of c.args.s.now) =
-        c.tags_at-at.ensures.0 ∙ ap tags_at c.version_of.ensures in
+    c.tags_at-at.ensures.0 ∙ ap tags_at c.version_of.ensures in
     let s = c.args.s.now in
     let e = place in
     let z : length s - 16 - c.tags_at-at.result ≡ length s - (tags_at (version_of s) + 16) = omega (arith, e) in
@@ -22,17 +22,17 @@ returns c =
 pub overflow_sub-end : goal.overflow_sub-end
 overflow_sub-end c =
     let place : c.tags_at-at.result ≡ tags_at (version_of c.args.s.now) =
-        c.tags_at-at.ensures.0 ∙ ap tags_at c.version_of.ensures in
+    c.tags_at-at.ensures.0 ∙ ap tags_at c.version_of.ensures in
     omega (arith, place, c.requires)
 
 pub slice_bounds-result-count : goal.slice_bounds-result-count
 slice_bounds-result-count c =
     let place : c.tags_at-at.result ≡ tags_at (version_of c.args.s.now) =
-        c.tags_at-at.ensures.0 ∙ ap tags_at c.version_of.ensures in
+    c.tags_at-at.ensures.0 ∙ ap tags_at c.version_of.ensures in
     omega (arith, place, c.requires)
 
 pub slice_bounds-result-start : goal.slice_bounds-result-start
 slice_bounds-result-start c =
     let place : c.tags_at-at.result ≡ tags_at (version_of c.args.s.now) =
-        c.tags_at-at.ensures.0 ∙ ap tags_at c.version_of.ensures in
+    c.tags_at-at.ensures.0 ∙ ap tags_at c.version_of.ensures in
     omega (arith, place, c.requires)

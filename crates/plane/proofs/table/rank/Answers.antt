@@ -15,12 +15,12 @@ loop-k-preserved c =
     let h = c.loop-k-test.true in (
       omega arith,
       elim c.if-read-x.branch [
-          then-read-x w ↦
-              ap (λ (f : ℕ). f + rank (drop (c.loop-k.k + 1) a.d.now) a.x) w.found-is
-              ∙ rank_more a.d.now a.x c.loop-k.k c.loop-k.found h c.read.ensures c.loop-k.invariant.1 w.if-read-x.true
+        | then-read-x w ↦
+            ap (λ (f : ℕ). f + rank (drop (c.loop-k.k + 1) a.d.now) a.x) w.found-is
+            ∙ rank_more a.d.now a.x c.loop-k.k c.loop-k.found h c.read.ensures c.loop-k.invariant.1 w.if-read-x.true
         | else-read-x w ↦
-              ap (λ (f : ℕ). f + rank (drop (c.loop-k.k + 1) a.d.now) a.x) w.found-is
-              ∙ rank_same a.d.now a.x c.loop-k.k c.loop-k.found h c.read.ensures c.loop-k.invariant.1 w.if-read-x.false
+            ap (λ (f : ℕ). f + rank (drop (c.loop-k.k + 1) a.d.now) a.x) w.found-is
+            ∙ rank_same a.d.now a.x c.loop-k.k c.loop-k.found h c.read.ensures c.loop-k.invariant.1 w.if-read-x.false
       ],
     )
 

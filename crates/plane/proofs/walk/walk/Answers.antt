@@ -15,23 +15,23 @@ overflow_sub-items c = omega (arith, c.items.ensures, c.requires.le_i.1)
 pub write_tags-requires : goal.write_tags-requires
 write_tags-requires c =
     let set_out : let a = c.args in Walk a.s a.i c.differences-d.result.now c.rank-turn.result =
-        walk_of c.requires.le_i.0 c.requires.le_i.1 c.items.ensures c.differences-d.ensures c.rank-turn.ensures in
+    walk_of c.requires.le_i.0 c.requires.le_i.1 c.items.ensures c.differences-d.ensures c.rank-turn.ensures in
     record { walk = set_out; in_bounds = c.requires.in_bounds }
 
 pub returns-then-back : goal.returns-then-back
 returns-then-back c = record {
-      written = rw c.if-back.true c.write_tags.ensures.written;
-      count = rw c.if-back.true c.write_tags.ensures.count;
-    }
+  written = rw c.if-back.true c.write_tags.ensures.written;
+  count = rw c.if-back.true c.write_tags.ensures.count;
+}
 
 pub write_items-requires : goal.write_items-requires
 write_items-requires c =
     let set_out : let a = c.args in Walk a.s a.i c.differences-d.result.now c.rank-turn.result =
-        walk_of c.requires.le_i.0 c.requires.le_i.1 c.items.ensures c.differences-d.ensures c.rank-turn.ensures in
+    walk_of c.requires.le_i.0 c.requires.le_i.1 c.items.ensures c.differences-d.ensures c.rank-turn.ensures in
     record { walk = set_out; in_bounds = c.requires.in_bounds }
 
 pub returns : goal.returns
 returns c = record {
-      written = rw c.if-back.false c.write_items.ensures.written;
-      count = rw c.if-back.false c.write_items.ensures.count;
-    }
+  written = rw c.if-back.false c.write_items.ensures.written;
+  count = rw c.if-back.false c.write_items.ensures.count;
+}

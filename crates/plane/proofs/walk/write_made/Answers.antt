@@ -13,29 +13,29 @@ overflow_cast-row c = omega (arith, c.requires.s_bound.1, items-most c.args.s)
 pub overflow_sub-out : goal.overflow_sub-out
 overflow_sub-out c =
     let place : c.loop-k.k < length (plane_pattern c.args.s) =
-        omega (arith, c.loop-k-test.true, ap length c.requires.s_bound.2) in
+    omega (arith, c.loop-k-test.true, ap length c.requires.s_bound.2) in
     let entry : c.step.result ≡ get_or (plane_pattern c.args.s) c.loop-k.k 0 =
-        c.step.ensures ∙ ap (λ l. get_or l c.loop-k.k 0) c.requires.s_bound.2 in
+    c.step.ensures ∙ ap (λ l. get_or l c.loop-k.k 0) c.requires.s_bound.2 in
     made_back c.args.s c.args.i c.requires.s_bound.0 c.requires.s_bound.1 place entry
 
 pub offset_bounds-out-k : goal.offset_bounds-out-k
 offset_bounds-out-k c =
     let place : c.loop-k.k < length (plane_pattern c.args.s) =
-        omega (arith, c.loop-k-test.true, ap length c.requires.s_bound.2) in
+    omega (arith, c.loop-k-test.true, ap length c.requires.s_bound.2) in
     omega (arith, place, pattern_few c.args.s)
 
 pub bounds-out-k : goal.bounds-out-k
 bounds-out-k c =
     let place : c.loop-k.k < length (plane_pattern c.args.s) =
-        omega (arith, c.loop-k-test.true, ap length c.requires.s_bound.2) in
+    omega (arith, c.loop-k-test.true, ap length c.requires.s_bound.2) in
     omega (arith, place, pattern_few c.args.s, c.loop-k.invariant.1, c.requires.in_bounds)
 
 pub loop-k-preserved : goal.loop-k-preserved
 loop-k-preserved c =
     let place : c.loop-k.k < length (plane_pattern c.args.s) =
-        omega (arith, c.loop-k-test.true, ap length c.requires.s_bound.2) in
+    omega (arith, c.loop-k-test.true, ap length c.requires.s_bound.2) in
     let entry : c.step.result ≡ get_or (plane_pattern c.args.s) c.loop-k.k 0 =
-        c.step.ensures ∙ ap (λ l. get_or l c.loop-k.k 0) c.requires.s_bound.2 in
+    c.step.ensures ∙ ap (λ l. get_or l c.loop-k.k 0) c.requires.s_bound.2 in
     let a = c.args in
     let p = c.requires.s_bound in (
       omega arith,

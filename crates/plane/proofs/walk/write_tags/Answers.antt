@@ -12,7 +12,7 @@ pub returns-then-t-row : goal.returns-then-t-row
 unfolding along
 returns-then-t-row c =
     let place : let a = c.args in c.loop-k.k < length (rows_of (plane a.s) (plane_items a.s + 1 - a.i)) =
-        omega (arith, c.loop-k-test.true, rows-many c.requires.walk) in
+    omega (arith, c.loop-k-test.true, rows-many c.requires.walk) in
     let a = c.args in
     let j = plane_items a.s + 1 - a.i in
     let e : c.loop-k.k ≡ length (tags_of (plane a.s) j) =
@@ -33,7 +33,7 @@ bounds-out-k c =
 pub loop-k-preserved : goal.loop-k-preserved
 loop-k-preserved c =
     let place : let a = c.args in c.loop-k.k < length (rows_of (plane a.s) (plane_items a.s + 1 - a.i)) =
-        omega (arith, c.loop-k-test.true, rows-many c.requires.walk) in
+    omega (arith, c.loop-k-test.true, rows-many c.requires.walk) in
     let a = c.args in
     let j = plane_items a.s + 1 - a.i in
     let f = (walk_rules c.requires.walk).fits in

@@ -1,6 +1,5 @@
 -- Each turn writes a word (KeyLaws).
 use Rattle.fips197.proofs.Kit.{refl, ◌∙◌, arith, length-set}
-use Rattle.tables.specs.RoundTables.{decipher_word}
 use Rattle.tables.proofs.KeyLaws.{words_more}
 use Rattle.tables.proofs.keys.decipher_words.Goals as goal
 
