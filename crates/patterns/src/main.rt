@@ -2,8 +2,10 @@
 // deriving.
 #![tactic(auto)]
 
-fn main() {
+use std::io;
+
+fn main(rt: HostRuntime) -> io::Result<()> {
     let mut out = [0u8; 256];
     let n = deriving::print(&mut out);
-    io::write_all(1, &out[..n]);
+    rt.write_all(&out[..n])
 }
