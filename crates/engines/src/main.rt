@@ -155,13 +155,7 @@ fn tables_tag(
 }
 
 // Makes a sheet by each engine; each is verified by the other, and they are compared.
-fn cross(
-    rt: &impl Print,
-    code: u64,
-    n: u64,
-    shelf: &[u8],
-    altered: &[u8],
-) -> io::Result<()> {
+fn cross(rt: &impl Print, code: u64, n: u64, shelf: &[u8], altered: &[u8]) -> io::Result<()> {
     let end = inputs::sheet_length(code);
     let t = (end - 28) / 16;
     let mut sheet = [0u8; files::tagfile::MOST];

@@ -56,7 +56,13 @@ fn pack_as(rt: &HostRuntime, stamp: Stamp, i: usize, count: usize)
 {
     let mut file = [0u8; message::MOST];
     packing::begin(&mut file, stamp);
-    let n = append_files(rt, &mut file, message::items_at(stamp.version), i + 1, count);
+    let n = append_files(
+        rt,
+        &mut file,
+        message::items_at(stamp.version),
+        i + 1,
+        count,
+    );
     if n == 0 {
         return;
     }

@@ -45,7 +45,10 @@ pub fn usage(out: &impl Print) {
         out,
         b"gtm sizes                                 each SIZE: the most cards, the tags, the limit and the sheet's bytes\n",
     );
-    put(out, b"gtm help                                  this text\n");
+    put(
+        out,
+        b"gtm help                                  this text\n",
+    );
     usage_of_reports(out);
 }
 
@@ -80,7 +83,10 @@ fn usage_with_keys(out: &impl Print) {
         out,
         b"gtm tag KEYS SIZE SHELF OUT               the sheet of a shelf; SIZE is 1 to 4, 35 to 37 or 51 to 57\n",
     );
-    put(out, b"gtm verify KEYS SHELF SHEET               yes or no\n");
+    put(
+        out,
+        b"gtm verify KEYS SHELF SHEET               yes or no\n",
+    );
     put(
         out,
         b"gtm report KEYS SHELF SHEET               which cards were altered, and how many rows of cards disagree\n",
@@ -151,12 +157,18 @@ pub fn refused(rt: &HostRuntime, r: Refusal) {
 fn of_message(rt: &HostRuntime, number: u8) {
     match number {
         1 => err(rt, b"the key file does not have 48 bytes\n"),
-        2 => err(rt, b"the size is not one of 1 to 4, 35 to 37 and 51 to 57\n"),
+        2 => err(
+            rt,
+            b"the size is not one of 1 to 4, 35 to 37 and 51 to 57\n",
+        ),
         3 => err(
             rt,
             b"the shelf has too few or over 65,536 bytes (a place: with that card file), or does not begin as a shelf of version 1 or 2\n",
         ),
-        4 => err(rt, b"the shelf has no card, or more cards than the size allows\n"),
+        4 => err(
+            rt,
+            b"the shelf has no card, or more cards than the size allows\n",
+        ),
         _ => err(
             rt,
             b"a card's length is above 1,024, a card runs past the end, or bytes are left over: see the card at that place\n",
@@ -172,9 +184,15 @@ fn of_tags(rt: &HostRuntime, number: u8) {
         ),
         7 => err(rt, b"the output is longer than the room for it\n"),
         8 => err(rt, b"there is no card of that number\n"),
-        9 => err(rt, b"a card file has over 1,024 bytes (the place: which one)\n"),
+        9 => err(
+            rt,
+            b"a card file has over 1,024 bytes (the place: which one)\n",
+        ),
         20 => err(rt, b"the sheet was altered, or was made with other keys\n"),
-        21 => err(rt, b"the shelf and the sheet have different numbers of cards\n"),
+        21 => err(
+            rt,
+            b"the shelf and the sheet have different numbers of cards\n",
+        ),
         _ => err(rt, b"the shelf and the sheet have different numbers\n"),
     }
 }

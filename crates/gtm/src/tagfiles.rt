@@ -119,27 +119,36 @@ fn change_by(rt: &HostRuntime, change: Change)
 }
 
 pub fn replace(rt: &HostRuntime) {
-    change_by(rt, Change {
-        old: 5,
-        new: 6,
-        out: 7,
-    });
+    change_by(
+        rt,
+        Change {
+            old: 5,
+            new: 6,
+            out: 7,
+        },
+    );
 }
 
 // The new card is empty.
 pub fn withdraw(rt: &HostRuntime) {
-    change_by(rt, Change {
-        old: 5,
-        new: 0,
-        out: 6,
-    });
+    change_by(
+        rt,
+        Change {
+            old: 5,
+            new: 0,
+            out: 6,
+        },
+    );
 }
 
 // The old card is empty.
 pub fn add(rt: &HostRuntime) {
-    change_by(rt, Change {
-        old: 0,
-        new: 5,
-        out: 6,
-    });
+    change_by(
+        rt,
+        Change {
+            old: 0,
+            new: 5,
+            out: 6,
+        },
+    );
 }

@@ -55,13 +55,7 @@ fn verify(rt: &impl Print, keys: &[u8], shelf: &[u8], sheet: &[u8]) -> io::Resul
 }
 
 // Tag, and Verify of what it wrote.
-fn tag(
-    rt: &impl Print,
-    keys: &[u8],
-    size: u64,
-    shelf: &[u8],
-    out: &mut [u8],
-) -> io::Result<()> {
+fn tag(rt: &impl Print, keys: &[u8], size: u64, shelf: &[u8], out: &mut [u8]) -> io::Result<()> {
     let r = scheme::tag(keys, size, shelf, out);
     say::outcome(rt, r)?;
     wrote(rt, out)?;

@@ -16,7 +16,11 @@ pub fn number(rt: &impl Print, n: u64) -> io::Result<()> {
 
 // The first text where the test holds, else the second.
 pub fn either(rt: &impl Print, holds: bool, first: &[u8], second: &[u8]) -> io::Result<()> {
-    if holds { text(rt, first) } else { text(rt, second) }
+    if holds {
+        text(rt, first)
+    } else {
+        text(rt, second)
+    }
 }
 
 fn wide(x: u8) -> u64 {

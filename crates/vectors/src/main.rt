@@ -116,10 +116,30 @@ fn subkeys(rt: &impl Print) -> io::Result<()> {
 
 fn examples(rt: &impl Print) -> io::Result<()> {
     let m = MESSAGE;
-    line(rt, b"RFC 4493 Example 1", &cmac::cmac(KEY, &m[0..0]), &MAC_0)?;
-    line(rt, b"RFC 4493 Example 2", &cmac::cmac(KEY, &m[0..16]), &MAC_16)?;
-    line(rt, b"RFC 4493 Example 3", &cmac::cmac(KEY, &m[0..40]), &MAC_40)?;
-    line(rt, b"RFC 4493 Example 4", &cmac::cmac(KEY, &m[0..64]), &MAC_64)
+    line(
+        rt,
+        b"RFC 4493 Example 1",
+        &cmac::cmac(KEY, &m[0..0]),
+        &MAC_0,
+    )?;
+    line(
+        rt,
+        b"RFC 4493 Example 2",
+        &cmac::cmac(KEY, &m[0..16]),
+        &MAC_16,
+    )?;
+    line(
+        rt,
+        b"RFC 4493 Example 3",
+        &cmac::cmac(KEY, &m[0..40]),
+        &MAC_40,
+    )?;
+    line(
+        rt,
+        b"RFC 4493 Example 4",
+        &cmac::cmac(KEY, &m[0..64]),
+        &MAC_64,
+    )
 }
 
 // Prints the line of an example whose message, the first n bytes, is laid out where it stands.
