@@ -3,8 +3,10 @@
 // what is right.
 #![tactic(auto)]
 
-fn main() {
+use std::io;
+
+fn main(rt: HostRuntime) -> io::Result<()> {
     let mut text = [0u8; trial::line::TEXT_MOST];
-    let n = io::read_full(0, &mut text);
-    trial::line::run_all(&text[..n]);
+    let n = filling::fill(&mut rt.stdin(), &mut text)?;
+    trial::line::run_all(&rt, &text[..n])
 }

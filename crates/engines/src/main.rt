@@ -7,6 +7,7 @@ ghost use Rattle.std.specs.Prelude.{◌+◌, ◌*◌, ◌≤◌, length};
 
 use blocks::block;
 use cipher::aes;
+use std::io;
 use trial::inputs::KEYS;
 use trial::{inputs, say, sessions};
 
@@ -96,11 +97,11 @@ fn sums_of(code: u64, n: u64, shelf: &[u8]) -> [u8; sums::TAGS_MOST] {
     s.sums
 }
 
-fn line(code: u64, case: &[u8], yes: bool) {
-    say::text(b"size ");
-    say::number(code);
-    say::text(case);
-    say::either(yes, b": yes\n", b": no\n");
+fn line(rt: &impl Print, code: u64, case: &[u8], yes: bool) -> io::Result<()> {
+    say::text(rt, b"size ")?;
+    say::number(rt, code)?;
+    say::text(rt, case)?;
+    say::either(rt, yes, b": yes\n", b": no\n")
 }
 
 fn verified(shelf: &[u8], sheet: &[u8]) -> bool {
@@ -109,70 +110,84 @@ fn verified(shelf: &[u8], sheet: &[u8]) -> bool {
 }
 
 // The lines of the plain engine's sheet.
-fn plain_tags(code: u64, shelf: &[u8], altered: &[u8], sheet: &[u8]) {
+fn plain_tags(
+    rt: &impl Print,
+    code: u64,
+    shelf: &[u8],
+    altered: &[u8],
+    sheet: &[u8],
+) -> io::Result<()> {
     line(
+        rt,
         code,
         b", tagged by the plain engine, verified by the tables",
         verified(shelf, sheet),
-    );
+    )?;
     line(
+        rt,
         code,
         b", tagged by the plain engine, a card altered, verified by the tables",
         verified(altered, sheet),
-    );
+    )
 }
 
 // The lines of the sums that the plain engine has back from the tables' sheet.
-fn tables_tag(code: u64, n: u64, shelf: &[u8], altered: &[u8], sums: &[u8]) {
+fn tables_tag(
+    rt: &impl Print,
+    code: u64,
+    n: u64,
+    shelf: &[u8],
+    altered: &[u8],
+    sums: &[u8],
+) -> io::Result<()> {
     line(
+        rt,
         code,
         b", tagged by the tables, verified by the plain engine",
-        check::same(sums, &sums_of(code, n, shelf)),
-    );
+        sums == sums_of(code, n, shelf).as_slice(),
+    )?;
     line(
+        rt,
         code,
         b", tagged by the tables, a card altered, verified by the plain engine",
-        check::same(sums, &sums_of(code, n, altered)),
-    );
+        sums == sums_of(code, n, altered).as_slice(),
+    )
 }
 
 // Makes a sheet by each engine; each is verified by the other, and they are compared.
-fn cross(code: u64, n: u64, shelf: &[u8], altered: &[u8]) {
+fn cross(rt: &impl Print, code: u64, n: u64, shelf: &[u8], altered: &[u8]) -> io::Result<()> {
     let end = inputs::sheet_length(code);
     let t = (end - 28) / 16;
     let mut sheet = [0u8; files::tagfile::MOST];
     scheme::tag(&KEYS, code, shelf, &mut sheet);
     let other = tagged_by_plain(sheet, t, &sums_of(code, n, shelf));
-    plain_tags(code, shelf, altered, &other[0..end]);
-    tables_tag(code, n, shelf, altered, &sums_by_plain(&sheet, t));
-    line(
-        code,
-        b", one sheet by both engines",
-        check::same(&sheet, &other),
-    );
+    plain_tags(rt, code, shelf, altered, &other[0..end])?;
+    tables_tag(rt, code, n, shelf, altered, &sums_by_plain(&sheet, t))?;
+    line(rt, code, b", one sheet by both engines", sheet == other)
 }
 
 // The lines of a size, with card 1 altered.
-fn size(code: u64) {
+fn size(rt: &impl Print, code: u64) -> io::Result<()> {
     let n = inputs::most_cards(code);
     let end = 7 + 4 * n;
     let mut shelf = [0u8; 1099];
     inputs::put_short_cards(&mut shelf, n);
     let mut altered = shelf;
     inputs::alter(&mut altered, 9, 0, 1);
-    cross(code, n as u64, &shelf[0..end], &altered[0..end]);
+    cross(rt, code, n as u64, &shelf[0..end], &altered[0..end])
 }
 
-fn main() {
+fn main(rt: HostRuntime) -> io::Result<()> {
     let agree = chain(tag_schedule(), [0u8; 16]);
     say::either(
+        &rt,
         agree,
         b"1000 blocks both ways by both engines: alike\n",
         b"1000 blocks both ways by both engines: not alike\n",
-    );
-    size(1);
-    size(2);
-    size(3);
-    size(4);
-    size(57);
+    )?;
+    size(&rt, 1)?;
+    size(&rt, 2)?;
+    size(&rt, 3)?;
+    size(&rt, 4)?;
+    size(&rt, 57)
 }

@@ -1,8 +1,10 @@
 // Files read whole.
 ghost use Rattle.std.specs.Prelude.{◌≤◌, length};
 
-use crate::say;
+use crate::{say, words};
 use files::{message, tagfile};
+use std::fs::File;
+use std::{fs, io};
 
 // Buffers for the files: one byte more than each may have, so that the call itself refuses what is too long.
 pub const KEYS: usize = 49;
@@ -20,42 +22,46 @@ pub struct Got {
     pub n: usize,
 }
 
-// Whether the file can be read on where it stands. A failed read looks like the file's end to io::read_full; one more read tells.
-fn readable(fd: i32) -> bool {
-    let mut more = [0u8; 1];
-    libc::read(fd, &mut more) >= 0
-}
-
-// Reads the open file until the buffer is full, and closes it; says where it cannot be read.
-fn read_open(fd: i32, name: &[u8], buf: &mut [u8]) -> Got
+// Reads the open file until the buffer is full; says where it cannot be read.
+fn read_open(rt: &HostRuntime, file: &mut File, name: &[u8], buf: &mut [u8]) -> Got
     ensures { result.n ≤ length buf.new }
 {
-    let n = io::read_full(fd, buf);
-    let mut ok = true;
-    if n < buf.len() {
-        ok = readable(fd);
+    match filling::fill(file, buf) {
+        Ok(n) => Got { ok: true, n },
+        Err(e) => {
+            say::failed(rt, name, e);
+            Got { ok: false, n: 0 }
+        }
     }
-    if !ok {
-        say::failed(name);
+}
+
+fn open(rt: &HostRuntime, name: &[u8]) -> io::Result<File> {
+    fs::open(rt, words::path(name)?)
+}
+
+// Reads the file of that name, as much as the buffer holds; says what fails.
+fn read_named(rt: &HostRuntime, name: &[u8], buf: &mut [u8]) -> Got
+    ensures { result.n ≤ length buf.new }
+{
+    match open(rt, name) {
+        Ok(mut file) => read_open(rt, &mut file, name, buf),
+        Err(e) => {
+            say::failed(rt, name, e);
+            Got { ok: false, n: 0 }
+        }
     }
-    libc::close(fd);
-    Got { ok: ok, n: n }
 }
 
 // Reads the file that word i names, as much as the buffer holds; says what fails.
-pub fn read(i: usize, buf: &mut [u8]) -> Got
+pub fn read(rt: &HostRuntime, i: usize, buf: &mut [u8]) -> Got
     ensures { result.n ≤ length buf.new }
 {
-    let mut name = io::buffer();
-    let n = os::arg(i, &mut name);
-    if os::errno() != 0 {
-        say::failed(b"a file's name");
-        return Got { ok: false, n: 0 };
+    let mut name = [0u8; words::MOST];
+    match words::word(rt, i, &mut name) {
+        Ok(n) => read_named(rt, &name[0..n], buf),
+        Err(e) => {
+            say::failed(rt, b"a file's name", e);
+            Got { ok: false, n: 0 }
+        }
     }
-    let fd = os::open_read(&name[0..n]);
-    if fd < 0 {
-        say::failed(&name[0..n]);
-        return Got { ok: false, n: 0 };
-    }
-    read_open(fd, &name[0..n], buf)
 }

@@ -14,62 +14,62 @@ mod tagfiles;
 mod words;
 
 // Runs the command that a word names.
-fn run(word: &[u8]) {
-    if check::same(word, b"pack") {
-        cards::pack();
-    } else if check::same(word, b"tag") {
-        tagfiles::tag();
-    } else if check::same(word, b"verify") {
-        judging::verify();
-    } else if check::same(word, b"report") {
-        judging::report();
+fn run(rt: &HostRuntime, word: &[u8]) {
+    if word == b"pack".as_slice() {
+        cards::pack(rt);
+    } else if word == b"tag".as_slice() {
+        tagfiles::tag(rt);
+    } else if word == b"verify".as_slice() {
+        judging::verify(rt);
+    } else if word == b"report".as_slice() {
+        judging::report(rt);
     } else {
-        run_change(word);
+        run_change(rt, word);
     }
 }
 
 // The commands that change a card in a tag file.
-fn run_change(word: &[u8]) {
-    if check::same(word, b"replace") {
-        tagfiles::replace();
-    } else if check::same(word, b"withdraw") {
-        tagfiles::withdraw();
-    } else if check::same(word, b"add") {
-        tagfiles::add();
+fn run_change(rt: &HostRuntime, word: &[u8]) {
+    if word == b"replace".as_slice() {
+        tagfiles::replace(rt);
+    } else if word == b"withdraw".as_slice() {
+        tagfiles::withdraw(rt);
+    } else if word == b"add".as_slice() {
+        tagfiles::add(rt);
     } else {
-        run_small(word);
+        run_small(rt, word);
     }
 }
 
 // The commands that need no keys.
-fn run_small(word: &[u8]) {
-    if check::same(word, b"pack-numbered") {
-        cards::pack_numbered();
-    } else if check::same(word, b"fetch") {
-        cards::fetch();
-    } else if check::same(word, b"list") {
-        cards::list();
-    } else if check::same(word, b"sizes") {
-        codes::list();
-    } else if check::same(word, b"help") {
-        help();
+fn run_small(rt: &HostRuntime, word: &[u8]) {
+    if word == b"pack-numbered".as_slice() {
+        cards::pack_numbered(rt);
+    } else if word == b"fetch".as_slice() {
+        cards::fetch(rt);
+    } else if word == b"list".as_slice() {
+        cards::list(rt);
+    } else if word == b"sizes".as_slice() {
+        codes::list(rt);
+    } else if word == b"help".as_slice() {
+        help(rt);
     } else {
-        say::error(b"an unknown command: ", word);
+        say::error(rt, b"an unknown command: ", word);
     }
 }
 
-fn help() {
-    if words::exactly(2) {
-        say::usage(1);
+fn help(rt: &HostRuntime) {
+    if words::exactly(rt, 2) {
+        say::usage(rt);
     }
 }
 
-fn main() {
-    if os::arg_count() < 2 {
-        say::error(b"a missing word", b"");
+fn main(rt: HostRuntime) {
+    if words::count(&rt) < 2 {
+        say::error(&rt, b"a missing word", b"");
         return;
     }
-    let mut word = io::buffer();
-    let n = os::arg(1, &mut word);
-    run(&word[0..n]);
+    let mut word = [0u8; words::MOST];
+    let n = words::word_or_empty(&rt, 1, &mut word);
+    run(&rt, &word[0..n]);
 }

@@ -1,9 +1,11 @@
 // Prints the row pattern of each plane, worked out from its difference list (document 02, request 2.6). What it prints is proved in the crate
-// deriving.
+// derivation.
 #![tactic(auto)]
 
-fn main() {
+use std::io;
+
+fn main(rt: HostRuntime) -> io::Result<()> {
     let mut out = [0u8; 256];
-    let n = deriving::print(&mut out);
-    io::write_all(1, &out[..n]);
+    let n = derivation::print(&mut out);
+    rt.write_all(&out[..n])
 }

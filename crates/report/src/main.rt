@@ -2,10 +2,12 @@
 // proved in the crate reporting; here it is read and written. A byte more than the 65,536 that are readable is read, and no more.
 #![tactic(auto)]
 
-fn main() {
+use std::io;
+
+fn main(rt: HostRuntime) -> io::Result<()> {
     let mut input = [0u8; 65537];
-    let n = io::read_full(0, &mut input);
+    let n = filling::fill(&mut rt.stdin(), &mut input)?;
     let mut out = [0u8; 8192];
     let k = reporting::print(&input[..n], &mut out);
-    io::write_all(1, &out[..k]);
+    rt.write_all(&out[..k])
 }

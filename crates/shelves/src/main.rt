@@ -9,6 +9,7 @@
 
 ghost use Rattle.std.specs.Prelude.{◌≤◌, length};
 
+use std::io;
 use trial::inputs::KEYS;
 use trial::{inputs, say};
 
@@ -49,17 +50,20 @@ fn by_session() -> [u8; 476] {
 }
 
 // The 64 cards are too long for one shelf, until the last is withdrawn.
-fn long_session() {
+fn long_session(rt: &impl Print) -> io::Result<()> {
     let mut out = [0u8; 476];
     scheme::replace(&KEYS, &by_session(), 64, &[0u8; 1024], b"", &mut out);
-    say::text(b"session of 64 cards of 1,024 bytes, size 3, then card 64 emptied");
-    let same = check::same(&out, &tagged());
-    say::either(same, b": equals Tag's\n", b": differs from Tag's\n");
+    say::text(
+        rt,
+        b"session of 64 cards of 1,024 bytes, size 3, then card 64 emptied",
+    )?;
+    let same = out == tagged();
+    say::either(rt, same, b": equals Tag's\n", b": differs from Tag's\n")
 }
 
-fn main() {
+fn main(rt: HostRuntime) -> io::Result<()> {
     let mut text = [0u8; trial::line::TEXT_MOST];
-    let n = io::read_full(0, &mut text);
-    trial::line::run_all(&text[..n]);
-    long_session();
+    let n = filling::fill(&mut rt.stdin(), &mut text)?;
+    trial::line::run_all(&rt, &text[..n])?;
+    long_session(&rt)
 }

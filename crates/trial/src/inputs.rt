@@ -13,7 +13,7 @@ pub const SHELF: [u8; 12] = *b"TBS\x00\x01\x00\x02\x00\x01a\x00\x00";
 pub fn put(out: &mut [u8], at: usize, text: &[u8])
     requires { at + length text.now ≤ length out.old }
 {
-    bytes::copy(text, &mut out[at..]);
+    out[at..at + text.len()].copy_from_slice(text);
 }
 
 // Writes a number as two bytes at a place.

@@ -17,13 +17,13 @@ pub fn written(out: &[u8]) -> usize {
 fn same_keys(s: Session, t: Session) -> bool {
     let a = s.keys;
     let b = t.keys;
-    check::same(&a.item, &b.item) && check::same(&a.tag, &b.tag) && check::same(&a.seal, &b.seal)
+    a.item == b.item && a.tag == b.tag && a.seal == b.seal
 }
 
 fn same_sums(s: Session, t: Session) -> bool {
     let a = s.sums;
     let b = t.sums;
-    check::same(&a, &b)
+    a == b
 }
 
 pub fn same(s: Session, t: Session) -> bool {

@@ -14,14 +14,25 @@
 ghost use Rattle.std.specs.Prelude.{◌*◌, ◌≤◌, ◌<◌, length};
 
 use crate::{calls, given};
-use bytes::scan;
 use command::numbers;
+use std::io;
+
+// The place of the first such byte from a place on, or the end.
+fn find(line: &[u8], at: usize, byte: u8) -> usize
+    requires { at ≤ length line.now }
+    ensures { (at ≤ result) × (result ≤ length line.now) }
+{
+    match line[at..].iter().position(|b| *b == byte) {
+        Some(k) => at + k,
+        None => line.len(),
+    }
+}
 
 // The word that starts at a place: up to the next space or the end.
 fn word(line: &[u8], at: usize) -> &[u8]
     requires { at ≤ length line.now }
 {
-    let end = scan::find(line, at, line.len(), b' ');
+    let end = find(line, at, b' ');
     &line[at..end]
 }
 
@@ -30,7 +41,7 @@ fn behind(line: &[u8], at: usize) -> usize
     requires { at < length line.now }
     ensures { (at < result) × (result ≤ length line.now) }
 {
-    let end = scan::find(line, at, line.len(), b' ');
+    let end = find(line, at, b' ');
     if end < line.len() {
         return end + 1;
     }
@@ -56,7 +67,7 @@ fn place_in(list: &[u8], n: usize, w: &[u8]) -> usize
     let mut i = 0;
     while i < n {
         let at = 8 * i;
-        if check::same(word(&list[at..at + 8], 0), w) {
+        if word(&list[at..at + 8], 0) == w {
             return i;
         }
         i += 1;
@@ -88,24 +99,25 @@ fn steps(line: &[u8], from: usize, n: &mut [u64; 22], bytes: &mut [u8])
 }
 
 // Runs the call of a line, and says the line and what came out.
-fn run(line: &[u8]) {
+fn run(rt: &impl Print, line: &[u8]) -> io::Result<()> {
     let mut n = given::USUAL;
     let mut bytes = [0u8; 72192];
     given::put_usual(&mut bytes);
     steps(line, next(line, 0), &mut n, &mut bytes);
     let call = place_in(&calls::NAMES, 9, word(line, 0));
-    calls::run(line, call, &n, &mut bytes);
+    calls::run(rt, line, call, &n, &mut bytes)
 }
 
 // How many bytes a text of lines has at most.
 pub const TEXT_MOST: usize = 65536;
 
 // Runs each line of a text.
-pub fn run_all(text: &[u8]) {
+pub fn run_all(rt: &impl Print, text: &[u8]) -> io::Result<()> {
     let mut at = 0;
     while at < text.len() {
-        let end = scan::find(text, at, text.len(), b'\n');
-        run(&text[at..end]);
+        let end = find(text, at, b'\n');
+        run(rt, &text[at..end])?;
         at = end + 1;
     }
+    Ok(())
 }

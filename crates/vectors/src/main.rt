@@ -3,10 +3,11 @@
 // runs them all; the plain engine runs those of AES-128.
 #![tactic(auto)]
 
-ghost use Rattle.std.specs.Prelude.{◌≤◌, length};
+ghost use Rattle.std.specs.Prelude.{◌≤◌};
 
 use blocks::block;
 use cipher::{aes, cmac, engine};
+use std::io;
 
 // FIPS 197, appendix B.
 const B_KEY: [u8; 16] = *b"\x2b\x7e\x15\x16\x28\xae\xd2\xa6\xab\xf7\x15\x88\x09\xcf\x4f\x3c";
@@ -54,129 +55,159 @@ const TOP_BIT: [u8; 16] = *b"\x80\0\0\0\0\0\0\0\0\0\0\0\0\0\0\0";
 const TOP_BIT_DOUBLED: [u8; 16] = *b"\0\0\0\0\0\0\0\0\0\0\0\0\0\0\0\x87";
 
 // Prints bytes in hexadecimal.
-fn print_hex(bytes: &[u8]) {
-    let mut i = 0;
-    while i < bytes.len() {
-        io::print_hex(1, bytes[i] as u64, 2);
-        i += 1;
+fn print_hex(rt: &impl Print, bytes: &[u8]) -> io::Result<()> {
+    for byte in bytes {
+        print!(rt; "{byte:02x}")?;
     }
+    Ok(())
 }
 
 // Prints a line: a name, the result, and what was expected where that differs.
-fn line(name: &[u8], res: &[u8], expected: &[u8]) {
-    io::write_all(1, name);
-    io::write_all(1, b" ");
-    print_hex(res);
-    if !check::same(res, expected) {
-        io::write_all(1, b" WRONG, expected ");
-        print_hex(expected);
+fn line(rt: &impl Print, name: &[u8], res: &[u8], expected: &[u8]) -> io::Result<()> {
+    rt.write_all(name)?;
+    rt.write_all(b" ")?;
+    print_hex(rt, res)?;
+    if res != expected {
+        rt.write_all(b" WRONG, expected ")?;
+        print_hex(rt, expected)?;
     }
-    io::write_all(1, b"\n");
+    rt.write_all(b"\n")
 }
 
-fn fips_197() {
+fn fips_197(rt: &impl Print) -> io::Result<()> {
     line(
+        rt,
         b"FIPS 197 B encipher",
         &aes::encipher(B_KEY, B_INPUT),
         &B_OUTPUT,
-    );
+    )?;
     line(
+        rt,
         b"FIPS 197 B decipher",
         &aes::decipher(B_KEY, B_OUTPUT),
         &B_INPUT,
-    );
+    )?;
     line(
+        rt,
         b"FIPS 197 C.1 encipher",
         &aes::encipher(C1_KEY, C1_PLAINTEXT),
         &C1_CIPHERTEXT,
-    );
+    )?;
     line(
+        rt,
         b"FIPS 197 C.1 decipher",
         &aes::decipher(C1_KEY, C1_CIPHERTEXT),
         &C1_PLAINTEXT,
-    );
+    )
 }
 
-fn subkeys() {
+fn subkeys(rt: &impl Print) -> io::Result<()> {
     let t = engine::tables();
     let key = cmac::prepare(&t, KEY);
     line(
+        rt,
         b"RFC 4493 AES-128(key,0)",
         &aes::encipher(KEY, [0u8; 16]),
         &ZERO_ENCIPHERED,
-    );
-    line(b"RFC 4493 K1", &key.k1, &K1);
-    line(b"RFC 4493 K2", &key.k2, &K2);
+    )?;
+    line(rt, b"RFC 4493 K1", &key.k1, &K1)?;
+    line(rt, b"RFC 4493 K2", &key.k2, &K2)
 }
 
-fn examples() {
+fn examples(rt: &impl Print) -> io::Result<()> {
     let m = MESSAGE;
-    line(b"RFC 4493 Example 1", &cmac::cmac(KEY, &m[0..0]), &MAC_0);
-    line(b"RFC 4493 Example 2", &cmac::cmac(KEY, &m[0..16]), &MAC_16);
-    line(b"RFC 4493 Example 3", &cmac::cmac(KEY, &m[0..40]), &MAC_40);
-    line(b"RFC 4493 Example 4", &cmac::cmac(KEY, &m[0..64]), &MAC_64);
+    line(
+        rt,
+        b"RFC 4493 Example 1",
+        &cmac::cmac(KEY, &m[0..0]),
+        &MAC_0,
+    )?;
+    line(
+        rt,
+        b"RFC 4493 Example 2",
+        &cmac::cmac(KEY, &m[0..16]),
+        &MAC_16,
+    )?;
+    line(
+        rt,
+        b"RFC 4493 Example 3",
+        &cmac::cmac(KEY, &m[0..40]),
+        &MAC_40,
+    )?;
+    line(
+        rt,
+        b"RFC 4493 Example 4",
+        &cmac::cmac(KEY, &m[0..64]),
+        &MAC_64,
+    )
 }
 
 // Prints the line of an example whose message, the first n bytes, is laid out where it stands.
-fn in_place(name: &[u8], n: usize, mac: [u8; 16])
+fn in_place(rt: &impl Print, name: &[u8], n: usize, mac: [u8; 16]) -> io::Result<()>
     requires { n ≤ 64 }
 {
     let t = engine::tables();
     let mut m = MESSAGE;
     let result = cmac::mac_in_place(&t, cmac::prepare(&t, KEY), &mut m, n);
-    line(name, &result, &mac);
+    line(rt, name, &result, &mac)
 }
 
-fn examples_in_place() {
-    in_place(b"RFC 4493 Example 1 in place", 0, MAC_0);
-    in_place(b"RFC 4493 Example 2 in place", 16, MAC_16);
-    in_place(b"RFC 4493 Example 3 in place", 40, MAC_40);
-    in_place(b"RFC 4493 Example 4 in place", 64, MAC_64);
+fn examples_in_place(rt: &impl Print) -> io::Result<()> {
+    in_place(rt, b"RFC 4493 Example 1 in place", 0, MAC_0)?;
+    in_place(rt, b"RFC 4493 Example 2 in place", 16, MAC_16)?;
+    in_place(rt, b"RFC 4493 Example 3 in place", 40, MAC_40)?;
+    in_place(rt, b"RFC 4493 Example 4 in place", 64, MAC_64)
 }
 
-fn bench_cards() {
-    line(b"S-box of 53", &[aes::sub_byte(0x53)], b"\xed");
+fn bench_cards(rt: &impl Print) -> io::Result<()> {
+    line(rt, b"S-box of 53", &[aes::sub_byte(0x53)], b"\xed")?;
     line(
+        rt,
         b"80 and fifteen 00 doubled",
         &block::double(TOP_BIT),
         &TOP_BIT_DOUBLED,
-    );
+    )
 }
 
 // The examples of AES-128 by the plain engine.
-fn by_the_plain_engine() {
+fn by_the_plain_engine(rt: &impl Print) -> io::Result<()> {
     line(
+        rt,
         b"FIPS 197 B encipher, plain engine",
         &plain::encipher(B_KEY, B_INPUT),
         &B_OUTPUT,
-    );
+    )?;
     line(
+        rt,
         b"FIPS 197 B decipher, plain engine",
         &plain::decipher(B_KEY, B_OUTPUT),
         &B_INPUT,
-    );
+    )?;
     line(
+        rt,
         b"FIPS 197 C.1 encipher, plain engine",
         &plain::encipher(C1_KEY, C1_PLAINTEXT),
         &C1_CIPHERTEXT,
-    );
+    )?;
     line(
+        rt,
         b"FIPS 197 C.1 decipher, plain engine",
         &plain::decipher(C1_KEY, C1_CIPHERTEXT),
         &C1_PLAINTEXT,
-    );
+    )?;
     line(
+        rt,
         b"RFC 4493 AES-128(key,0), plain engine",
         &plain::encipher(KEY, [0u8; 16]),
         &ZERO_ENCIPHERED,
-    );
+    )
 }
 
-fn main() {
-    fips_197();
-    subkeys();
-    examples();
-    examples_in_place();
-    bench_cards();
-    by_the_plain_engine();
+fn main(rt: HostRuntime) -> io::Result<()> {
+    fips_197(&rt)?;
+    subkeys(&rt)?;
+    examples(&rt)?;
+    examples_in_place(&rt)?;
+    bench_cards(&rt)?;
+    by_the_plain_engine(&rt)
 }
