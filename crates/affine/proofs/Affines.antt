@@ -1,6 +1,6 @@
 -- The affine sizes are lawful families: what the crates above use of them.
-use Rattle.fips197.proofs.Kit.{◌≡◌, refl, ap, ◌∙◌, Bool, true, false, List, ℕ, suc, ◌-◌, ◌^◌, ◌≤◌, arith, length, get_or}
-use Rattle.blocks.specs.Block.{if◌then◌else◌}
+use Rattle.std.specs.Prelude.{◌≡◌, ◌-◌, ◌^◌, ◌≤◌, if◌then◌else◌}
+use Rattle.fips197.proofs.Kit.{refl, ap, ◌∙◌, Bool, true, false, List, ℕ, suc, arith, length, get_or}
 use Rattle.incidence.specs.Count.{count_up_to, inside}
 use Rattle.incidence.specs.Family.{Lawful, items_of, tags_of}
 use Rattle.incidence.proofs.Counting.{count_most, inside-low, inside-high}

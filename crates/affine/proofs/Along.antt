@@ -1,6 +1,7 @@
 -- The points of a line ax + by = c in rising order. Where a is 0 its y is c / b and x runs through the elements; else y runs through them,
 -- and x is c / a + (b / a) y.
-use Rattle.fips197.proofs.Kit.{◌≡◌, refl, sym, ap, ◌∙◌, Bool, true, false, ℕ, ◌^◌, ◌≤◌, ◌<◌, arith, eqb, eqb-true, eqb-false, ne_eqb, bit_xor, xor_lt}
+use Rattle.std.specs.Prelude.{◌≡◌, ◌^◌, ◌≤◌, ◌<◌}
+use Rattle.fips197.proofs.Kit.{refl, sym, ap, ◌∙◌, Bool, true, false, ℕ, arith, eqb, eqb-true, eqb-false, ne_eqb, bit_xor, xor_lt}
 use Rattle.fips197.proofs.Xor.{xor_cancel}
 use native.Mathlib.Nat.{mul-le-mul_right}
 use Rattle.affine.specs.Field.{product, element_inverse}

@@ -1,6 +1,6 @@
 -- What the code computes in the field is what the definitions say: tested over the elements of both fields.
-use Rattle.fips197.proofs.Kit.{◌≡◌, refl, Bool, true, ◌⊎◌, inl, inr, ℕ, zero, suc, ◌+◌, ◌*◌, ◌/◌, ◌%◌, ◌^◌, ◌≤◌, ◌<◌, arith, mod-lt, eqb, ltb, leb, eqb-true, ltb-true, leb-true, eq-eqb, ne_eqb, bit_xor}
-use Rattle.blocks.specs.Block.{if◌then◌else◌}
+use Rattle.std.specs.Prelude.{◌≡◌, ◌⊎◌, ◌+◌, ◌*◌, ◌/◌, ◌%◌, ◌^◌, ◌≤◌, ◌<◌, if◌then◌else◌}
+use Rattle.fips197.proofs.Kit.{refl, Bool, true, inl, inr, ℕ, zero, suc, arith, mod-lt, eqb, ltb, leb, eqb-true, ltb-true, leb-true, eq-eqb, ne_eqb, bit_xor}
 use Rattle.incidence.proofs.Booleans.{and_left, and_right, or_cases}
 use Rattle.incidence.proofs.Counting.{every, every_at}
 use Rattle.affine.specs.Lines.{points}

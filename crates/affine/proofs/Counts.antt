@@ -1,6 +1,6 @@
 -- Laws of counting beyond incidence's: over the members of a list, at most one, and no more than another count by an injection.
-use Rattle.fips197.proofs.Kit.{◌≡◌, refl, ap, ap₂, ◌∙◌, Bool, true, false, not, ◌&&◌, [], ◌∷◌, ◌++◌, ℕ, zero, suc, ◌+◌, ◌-◌, ◌≤◌, arith, add-zero, add-one, eqb, eq-eqb, ne_eqb, get_or, List·getD-append, get_or_at}
-use Rattle.blocks.specs.Block.{if◌then◌else◌}
+use Rattle.std.specs.Prelude.{◌≡◌, ◌&&◌, ◌∷◌, ◌++◌, ◌+◌, ◌-◌, ◌≤◌, if◌then◌else◌}
+use Rattle.fips197.proofs.Kit.{refl, ap, ap₂, ◌∙◌, Bool, true, false, not, [], ℕ, zero, suc, arith, add-zero, add-one, eqb, eq-eqb, ne_eqb, get_or, List·getD-append, get_or_at}
 use Rattle.incidence.specs.Count.{indicator, count_up_to, listed}
 use Rattle.incidence.proofs.Booleans.{and_both}
 use Rattle.incidence.proofs.Counting.{count_ext, count_split, count_none, count_some}

@@ -1,6 +1,7 @@
 -- The affine family is (l − 2)-disjunct, argued once over s and l: two cards share at most one row, as their lines share at most one point;
 -- each card is on at least l − 1 rows, a chosen line by its 2^s points and a line ax + by = 1 by the chosen lines that it meets.
-use Rattle.fips197.proofs.Kit.{◌≡◌, refl, ap₂, Bool, true, false, not, ◌&&◌, ℕ, ◌+◌, ◌-◌, ◌^◌, ◌≤◌, ◌<◌, arith, eqb, leb, eqb-true, eqb-false, leb-true, leb-false, not-true}
+use Rattle.std.specs.Prelude.{◌≡◌, ◌&&◌, ◌+◌, ◌-◌, ◌^◌, ◌≤◌, ◌<◌}
+use Rattle.fips197.proofs.Kit.{refl, ap₂, Bool, true, false, not, ℕ, arith, eqb, leb, eqb-true, eqb-false, leb-true, leb-false, not-true}
 use Rattle.incidence.specs.Count.{count_up_to}
 use Rattle.incidence.specs.Family.{Disjunct}
 use Rattle.incidence.proofs.Booleans.{and_left, and_right, and_both}

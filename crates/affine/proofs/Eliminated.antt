@@ -1,7 +1,7 @@
 -- Elimination of the family's rows, computed with less: each row's set is made of the few cards along the lines through its point, and
 -- the rows are gone through once.
-use Rattle.fips197.proofs.Kit.{◌≡◌, refl, sym, ap, ◌∙◌, Bool, true, false, List, [], ◌∷◌, ◌++◌, map, ℕ, zero, suc, ◌+◌, ◌-◌, ◌≤◌, ◌<◌, ◌^◌, arith, add-zero, eqb, length, get_or, length-map}
-use Rattle.blocks.specs.Block.{if◌then◌else◌}
+use Rattle.std.specs.Prelude.{◌≡◌, ◌∷◌, ◌++◌, ◌+◌, ◌-◌, ◌≤◌, ◌<◌, ◌^◌, if◌then◌else◌}
+use Rattle.fips197.proofs.Kit.{refl, sym, ap, ◌∙◌, Bool, true, false, List, [], map, ℕ, zero, suc, arith, add-zero, eqb, length, get_or, length-map}
 use Rattle.blocks.proofs.Loop.{map_at}
 use Rattle.incidence.specs.Count.{listed}
 use Rattle.incidence.proofs.Listing.{listed-length}

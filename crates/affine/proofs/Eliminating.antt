@@ -1,10 +1,10 @@
 -- Elimination finds what it is to find, in any matrix. Each remainder is the XOR of its rows, so a row of which nothing is left is the XOR
 -- of earlier ones. Reducing is linear and leaves nothing of the rows before, so nothing is left of any XOR of them.
-use Rattle.fips197.proofs.Kit.{◌≡◌, refl, sym, ap, ap₂, ◌∙◌, Bool, true, false, ◌&&◌, List, [], ◌∷◌, ◌++◌, ◌⊎◌, inl, inr, ℕ, zero, suc, ◌-◌, ◌≤◌, ◌<◌, ◌^◌, arith, length, get_or, length-append, List·getD-append, get_or_at, bit_xor}
+use Rattle.std.specs.Prelude.{◌≡◌, ◌&&◌, ◌∷◌, ◌++◌, ◌⊎◌, ◌-◌, ◌≤◌, ◌<◌, ◌^◌, if◌then◌else◌}
+use Rattle.fips197.proofs.Kit.{refl, sym, ap, ap₂, ◌∙◌, Bool, true, false, List, [], inl, inr, ℕ, zero, suc, arith, length, get_or, length-append, List·getD-append, get_or_at, bit_xor}
 use mathlib.Core.Bool.{xor}
 use lib.Bits as bits
 use Rattle.fips197.proofs.Xor.{xor_assoc, xor-left, xor_twice, xor_cancel}
-use Rattle.blocks.specs.Block.{if◌then◌else◌}
 use Rattle.incidence.specs.Count.{listed}
 use Rattle.incidence.specs.Family.{Earlier, parity}
 use Rattle.incidence.proofs.Booleans.{not_both}

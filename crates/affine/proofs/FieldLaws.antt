@@ -1,6 +1,7 @@
 -- The field of 2^s elements, s = 2 and 3: each law is computed over the elements, and then holds of every number, since a product takes
 -- the lowest s bits of its factors.
-use Rattle.fips197.proofs.Kit.{◌≡◌, refl, sym, ap, ap₂, ◌∙◌, Bool, true, ◌||◌, ◌⊎◌, inl, inr, ℕ, zero, suc, ◌-◌, ◌%◌, ◌^◌, ◌<◌, arith, mod-lt, eqb, ltb, lit<, eqb-true, ltb-true, bit_xor, xor_mod, xor_self}
+use Rattle.std.specs.Prelude.{◌≡◌, ◌||◌, ◌⊎◌, ◌-◌, ◌%◌, ◌^◌, ◌<◌}
+use Rattle.fips197.proofs.Kit.{refl, sym, ap, ap₂, ◌∙◌, Bool, true, inl, inr, ℕ, zero, suc, arith, mod-lt, eqb, ltb, lit<, eqb-true, ltb-true, bit_xor, xor_mod, xor_self}
 use Rattle.fips197.proofs.Xor.{xor_cancel}
 use native.Mathlib.Nat.{mod-mod}
 use Rattle.incidence.proofs.Booleans.{or_cases}

@@ -1,7 +1,7 @@
 -- Lists made by going up through the numbers 1 to n, where those that pass a test are known: g 0 < g 1 < .. < g (k − 1). At a number that
 -- does not pass nothing is added, so going through g 0, g 1, .. makes the same list.
-use Rattle.fips197.proofs.Kit.{◌≡◌, refl, sym, ap, ◌∙◌, subst, Bool, true, false, ◌&&◌, and-true, List, [], ◌∷◌, ◌++◌, append-nil, append_assoc, ℕ, zero, suc, ◌+◌, ◌-◌, ◌≤◌, ◌<◌, arith, add-zero, zero-add, add-one, ltb, ltb-true, ltb-false, length, length-append, get_or, List·getD-append, get_or_at}
-use Rattle.blocks.specs.Block.{if◌then◌else◌}
+use Rattle.std.specs.Prelude.{◌≡◌, ◌&&◌, ◌∷◌, ◌++◌, ◌+◌, ◌-◌, ◌≤◌, ◌<◌, if◌then◌else◌}
+use Rattle.fips197.proofs.Kit.{refl, sym, ap, ◌∙◌, subst, Bool, true, false, and-true, List, [], append-nil, append_assoc, ℕ, zero, suc, arith, add-zero, zero-add, add-one, ltb, ltb-true, ltb-false, length, length-append, get_or, List·getD-append, get_or_at}
 use Rattle.incidence.specs.Count.{indicator, count_up_to, listed}
 use Rattle.incidence.proofs.Booleans.{and_false_r, not_both}
 use Rattle.incidence.proofs.Listing.{listed_ext, listed-length}

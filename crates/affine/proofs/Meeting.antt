@@ -1,9 +1,9 @@
 -- Two lines that share two points are the same but for a factor, so two different cards share at most one point; and a line ax + by = 1
 -- meets each chosen line but the one along it, each at a point of its own.
-use Rattle.fips197.proofs.Kit.{◌≡◌, refl, sym, ap, ap₂, ◌∙◌, Bool, true, false, ℕ, suc, ◌+◌, ◌-◌, ◌*◌, ◌/◌, ◌%◌, ◌^◌, ◌≤◌, ◌<◌, arith, add-zero, mod-lt, mod-eq_of_lt, div-lt_iff_lt-mul, div-add-mod', eqb, leb, eqb-true, eqb-false, eq-eqb, leb-true, leb-false, bit_xor, xor_comm, xor_self, xor_lt}
+use Rattle.std.specs.Prelude.{◌≡◌, ◌+◌, ◌-◌, ◌*◌, ◌/◌, ◌%◌, ◌^◌, ◌≤◌, ◌<◌, if◌then◌else◌}
+use Rattle.fips197.proofs.Kit.{refl, sym, ap, ap₂, ◌∙◌, Bool, true, false, ℕ, suc, arith, add-zero, mod-lt, mod-eq_of_lt, div-lt_iff_lt-mul, div-add-mod', eqb, leb, eqb-true, eqb-false, eq-eqb, leb-true, leb-false, bit_xor, xor_comm, xor_self, xor_lt}
 use Rattle.fips197.proofs.Xor.{xor_cancel, sums}
 use native.Mathlib.Nat.{mul-add-div_right, mul-add-mod_self_right, div-eq_of_lt, mul-le-mul_right}
-use Rattle.blocks.specs.Block.{if◌then◌else◌}
 use Rattle.affine.specs.Field.{product, element_inverse}
 use Rattle.affine.specs.declared.Line.{Line}
 use Rattle.affine.specs.Lines.{points, x_of, y_of, on_line, chosen, crossing, affine_items, line_of}

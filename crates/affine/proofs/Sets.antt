@@ -1,9 +1,9 @@
 -- Sets as numbers: what is in an XOR of two, in a set of one, and in the set of those that pass a test.
-use Rattle.fips197.proofs.Kit.{◌≡◌, refl, sym, ap, ap₂, ◌∙◌, Bool, true, false, ℕ, zero, suc, ◌+◌, ◌*◌, ◌/◌, ◌%◌, ◌≤◌, ◌<◌, ◌^◌, ◌⊎◌, inl, inr, arith, eqb, mod-lt, zero-lt-suc, pow-succ', div-div-eq-div-mul, one-mul, bit_xor, xor_shr, xor_mod, xor_comm, xor_zero_r, add-zero}
+use Rattle.std.specs.Prelude.{◌≡◌, ◌+◌, ◌*◌, ◌/◌, ◌%◌, ◌≤◌, ◌<◌, ◌^◌, ◌⊎◌, if◌then◌else◌}
+use Rattle.fips197.proofs.Kit.{refl, sym, ap, ap₂, ◌∙◌, Bool, true, false, ℕ, zero, suc, inl, inr, arith, eqb, mod-lt, zero-lt-suc, pow-succ', div-div-eq-div-mul, one-mul, bit_xor, xor_shr, xor_mod, xor_comm, xor_zero_r, add-zero}
 use mathlib.Core.Bool.{xor}
 use lib.Bits.{shifted_half, shifted_even, xor_shifted}
 use native.Mathlib.Nat.{div-one}
-use Rattle.blocks.specs.Block.{if◌then◌else◌}
 use Rattle.incidence.proofs.Counting.{last_or}
 use Rattle.incidence.proofs.Parity.{xor_turn, xor-none}
 use Rattle.affine.specs.Elimination.{has, set_of}

@@ -1,7 +1,7 @@
 -- What the walks' steps rest on: a place of a course is a point, a number written behind others is the next of the list, and a row that
 -- there is not has no tag and is made of none.
-use Rattle.fips197.proofs.Kit.{◌≡◌, refl, sym, ap, ◌∙◌, Bool, true, false, List, [], ◌∷◌, ◌++◌, ℕ, zero, suc, ◌+◌, ◌-◌, ◌*◌, ◌^◌, ◌≤◌, ◌<◌, ◌⊎◌, inl, inr, arith, add-one, eqb, length, get_or, set, drop, length-append, List·getD-append, get_or_at, eq-eqb, ne_eqb, xor_lt, bit_xor}
-use Rattle.blocks.specs.Block.{if◌then◌else◌}
+use Rattle.std.specs.Prelude.{◌≡◌, ◌∷◌, ◌++◌, ◌+◌, ◌-◌, ◌*◌, ◌^◌, ◌≤◌, ◌<◌, ◌⊎◌, if◌then◌else◌}
+use Rattle.fips197.proofs.Kit.{refl, sym, ap, ◌∙◌, Bool, true, false, List, [], ℕ, zero, suc, inl, inr, arith, add-one, eqb, length, get_or, set, drop, length-append, List·getD-append, get_or_at, eq-eqb, ne_eqb, xor_lt, bit_xor}
 use Rattle.incidence.specs.Count.{inside}
 use Rattle.incidence.proofs.Booleans.{and_false_l}
 use Rattle.incidence.proofs.Counting.{last_or}

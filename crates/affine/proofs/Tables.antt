@@ -1,7 +1,7 @@
 -- The code's tables are what the definitions give, for each of the ten sizes: one test over each table. The tests go through the lists once;
 -- the laws before them say that this gives what the definitions say of each place.
-use Rattle.fips197.proofs.Kit.{◌≡◌, refl, sym, ap, ap₂, ◌∙◌, subst, Bool, true, false, true≢false, not, ◌&&◌, List, [], ◌∷◌, map, ℕ, zero, suc, ◌+◌, ◌-◌, ◌*◌, ◌/◌, ◌%◌, ◌^◌, ◌≤◌, ◌<◌, arith, add-zero, zero-add, eqb, leb, eqb-true, eqb-false, leb-true, length, get_or, take, drop, not-true, get_or-take, get_or-drop, drop-drop, length-map, length-take, length-drop}
-use Rattle.blocks.specs.Block.{if◌then◌else◌}
+use Rattle.std.specs.Prelude.{◌≡◌, ◌&&◌, ◌∷◌, ◌+◌, ◌-◌, ◌*◌, ◌/◌, ◌%◌, ◌^◌, ◌≤◌, ◌<◌, if◌then◌else◌}
+use Rattle.fips197.proofs.Kit.{refl, sym, ap, ap₂, ◌∙◌, subst, Bool, true, false, true≢false, not, List, [], map, ℕ, zero, suc, arith, add-zero, zero-add, eqb, leb, eqb-true, eqb-false, leb-true, length, get_or, take, drop, not-true, get_or-take, get_or-drop, drop-drop, length-map, length-take, length-drop}
 use Rattle.blocks.proofs.Loop.{map_at}
 use Rattle.incidence.specs.Count.{indicator, count_up_to, listed}
 use Rattle.incidence.proofs.Booleans.{and_left, and_right}

@@ -1,7 +1,7 @@
 -- The tags of the affine family: they stand at the rows of which elimination leaves something, in row order, and every other row is the XOR
 -- of the earlier rows that it found. It holds for all s and l.
-use Rattle.fips197.proofs.Kit.{◌≡◌, refl, sym, ap, ◌∙◌, Bool, true, false, not, ◌&&◌, List, [], ◌∷◌, ◌++◌, ℕ, zero, suc, ◌+◌, ◌-◌, ◌≤◌, ◌<◌, ◌↔◌, arith, add-one, add-zero, eqb, ltb, ltb-true, ltb-false, eqb-true, eq-eqb, ne_eqb, get_or, not-true}
-use Rattle.blocks.specs.Block.{if◌then◌else◌}
+use Rattle.std.specs.Prelude.{◌≡◌, ◌&&◌, ◌∷◌, ◌++◌, ◌+◌, ◌-◌, ◌≤◌, ◌<◌, ◌↔◌, if◌then◌else◌}
+use Rattle.fips197.proofs.Kit.{refl, sym, ap, ◌∙◌, Bool, true, false, not, List, [], ℕ, zero, suc, arith, add-one, add-zero, eqb, ltb, ltb-true, ltb-false, eqb-true, eq-eqb, ne_eqb, get_or, not-true}
 use Rattle.incidence.specs.Count.{indicator, count_up_to, listed, inside}
 use Rattle.incidence.specs.Family.{Earlier, parity}
 use Rattle.incidence.proofs.Booleans.{and_right, and_both, and_false_r, not_both}

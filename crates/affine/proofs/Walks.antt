@@ -1,8 +1,8 @@
 -- The tags of a card are had along its line, and the cards of a row from its point: at the origin all chosen lines; elsewhere the one chosen
 -- line through it, and then the lines ax + by = 1 for (b, a) along the point's dual.
-use Rattle.fips197.proofs.Kit.{◌≡◌, refl, sym, ap, ap₂, ◌∙◌, Bool, true, false, ◌&&◌, true≢false, List, [], ◌∷◌, ◌++◌, ℕ, zero, suc, ◌+◌, ◌-◌, ◌/◌, ◌%◌, ◌^◌, ◌≤◌, ◌<◌, arith, zero-mod, eqb, leb, eqb-true, eqb-false, ne_eqb, leb-true, leb-false, le-leb, lt-leb, length, get_or, length-append, bit_xor, xor_comm}
+use Rattle.std.specs.Prelude.{◌≡◌, ◌&&◌, ◌∷◌, ◌++◌, ◌+◌, ◌-◌, ◌/◌, ◌%◌, ◌^◌, ◌≤◌, ◌<◌, if◌then◌else◌}
+use Rattle.fips197.proofs.Kit.{refl, sym, ap, ap₂, ◌∙◌, Bool, true, false, true≢false, List, [], ℕ, zero, suc, arith, zero-mod, eqb, leb, eqb-true, eqb-false, ne_eqb, leb-true, leb-false, le-leb, lt-leb, length, get_or, length-append, bit_xor, xor_comm}
 use native.Mathlib.Nat.{zero-div}
-use Rattle.blocks.specs.Block.{if◌then◌else◌}
 use Rattle.incidence.specs.Count.{count_up_to, listed, inside}
 use Rattle.incidence.specs.Family.{items_of, tags_of}
 use Rattle.incidence.proofs.Booleans.{and_false_l, and_false_r}

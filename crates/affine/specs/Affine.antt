@@ -1,6 +1,5 @@
 -- Document 02, 2.7: the affine family (000, section 6.5). Assumes nothing.
-use Rattle.std.specs.Prelude.{◌≡◌, Bool, not, ◌&&◌, ◌↔◌, List, [], ◌∷◌, ℕ, ◌+◌, ◌-◌, ◌^◌, ◌≤◌, ◌<◌, eqb, leb, get_or}
-use Rattle.blocks.specs.Block.{if◌then◌else◌}
+use Rattle.std.specs.Prelude.{◌≡◌, Bool, not, ◌&&◌, ◌↔◌, List, [], ◌∷◌, ℕ, ◌+◌, ◌-◌, ◌^◌, ◌≤◌, ◌<◌, eqb, leb, get_or, if◌then◌else◌}
 use Rattle.incidence.specs.Count.{count_up_to, listed, inside}
 use Rattle.incidence.specs.Family.{Family, Earlier, parity}
 use Rattle.affine.specs.Field.{offered}

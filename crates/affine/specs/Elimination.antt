@@ -1,9 +1,8 @@
 -- Elimination over two elements, of the rows of a matrix one after the other (document 02, 2.7: "Tags go to each row that isn't a sum of
 -- earlier rows, and elimination finds the others"). A set of numbers is a number here, whose bit k says whether k is in the set; the XOR of
 -- two sets is bit_xor. That it finds what is to be found is proved of any matrix (proofs/Eliminating.antt). Assumes nothing.
-use Rattle.std.specs.Prelude.{Bool, List, [], ◌∷◌, ◌++◌, ℕ, zero, suc, ◌+◌, ◌/◌, ◌%◌, ◌^◌, eqb}
+use Rattle.std.specs.Prelude.{Bool, List, [], ◌∷◌, ◌++◌, ℕ, zero, suc, ◌+◌, ◌/◌, ◌%◌, ◌^◌, eqb, if◌then◌else◌}
 use Rattle.std.specs.Int.Bits.{bit_xor}
-use Rattle.blocks.specs.Block.{if◌then◌else◌}
 
 -- whether k is in a set
 unfoldable pub has : ℕ → ℕ → Bool

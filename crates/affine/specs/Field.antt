@@ -1,8 +1,7 @@
 -- Document 02, 2.7: "Field elements are numbers below 2^s, with polynomial 7 for s = 2 and 11 for s = 3 (bits as coefficients)." The sum
 -- of two elements is bit_xor. Assumes nothing.
-use Rattle.std.specs.Prelude.{Bool, ◌||◌, ℕ, zero, suc, ◌-◌, ◌*◌, ◌/◌, ◌%◌, ◌^◌, eqb, ltb}
+use Rattle.std.specs.Prelude.{Bool, ◌||◌, ℕ, zero, suc, ◌-◌, ◌*◌, ◌/◌, ◌%◌, ◌^◌, eqb, ltb, if◌then◌else◌}
 use Rattle.std.specs.Int.Bits.{bit_xor}
-use Rattle.blocks.specs.Block.{if◌then◌else◌}
 
 -- "for s = 2 and 3"
 abbrev pub offered : ℕ → Bool

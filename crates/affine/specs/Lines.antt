@@ -1,8 +1,7 @@
 -- Document 02, 2.7 (000, section 6.5): points and lines over the field of 2^s elements, the cards and the rows that stand for them.
 -- Assumes nothing.
-use Rattle.std.specs.Prelude.{Bool, ℕ, ◌+◌, ◌-◌, ◌*◌, ◌/◌, ◌%◌, ◌^◌, eqb, leb, get_or}
+use Rattle.std.specs.Prelude.{Bool, ℕ, ◌+◌, ◌-◌, ◌*◌, ◌/◌, ◌%◌, ◌^◌, eqb, leb, get_or, if◌then◌else◌}
 use Rattle.std.specs.Int.Bits.{bit_xor}
-use Rattle.blocks.specs.Block.{if◌then◌else◌}
 use Rattle.incidence.specs.Count.{count_up_to, any_up_to, listed}
 use Rattle.affine.specs.declared.Line.{Line}
 use Rattle.affine.specs.Field.{product}

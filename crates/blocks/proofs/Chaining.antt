@@ -1,5 +1,6 @@
 -- The chain over blocks: a turn, one block, and that what is behind the blocks does not matter.
-use Rattle.fips197.proofs.Kit.{◌≡◌, refl, sym, ap, ap₂, ◌∙◌, List, ◌++◌, ℕ, zero, suc, ◌+◌, ◌*◌, ◌/◌, ◌≤◌, arith, add-one, length, take, drop, drop-append-le, take-append-le, take_all, length-drop}
+use Rattle.std.specs.Prelude.{◌≡◌, ◌++◌, ◌+◌, ◌*◌, ◌/◌, ◌≤◌}
+use Rattle.fips197.proofs.Kit.{refl, sym, ap, ap₂, ◌∙◌, List, ℕ, zero, suc, arith, add-one, length, take, drop, drop-append-le, take-append-le, take_all, length-drop}
 use Rattle.blocks.specs.Block.{◌⊕◌, zeros}
 use Rattle.blocks.specs.Chain.{chain}
 use Rattle.blocks.proofs.Xor.{⊕_comm, ⊕-zeros}

@@ -1,5 +1,6 @@
 -- Doubling: what each byte is, as the code computes it; that it is multiplication by x; and that it keeps blocks.
-use Rattle.fips197.proofs.Kit.{◌≡◌, sym, ap, ap₂, ◌∙◌, subst, ⊎_elim, List, [], ◌∷◌, ◌++◌, ℕ, zero, suc, ◌+◌, ◌*◌, ◌/◌, ◌%◌, ◌^◌, ◌<◌, not-suc-le-zero, le_of_suc-le-suc, eq-or-lt_of_le, div-div-eq-div-mul, pow-suc, add-mul, mul_assoc, mul_comm, mod-lt, div-add-mod', div-lt_iff_lt-mul, zero-add, add-zero, lit<, pow_pos, arith, length, get_or, get_or-replicate, List·getD-append, get_or_at, bit_and, bit_xor, bit_or, and_mask, or_shifted, xor_zero_r, xor_block, xor_lt, xor_self}
+use Rattle.std.specs.Prelude.{◌≡◌, ◌∷◌, ◌++◌, ◌+◌, ◌*◌, ◌/◌, ◌%◌, ◌^◌, ◌<◌}
+use Rattle.fips197.proofs.Kit.{sym, ap, ap₂, ◌∙◌, subst, ⊎_elim, List, [], ℕ, zero, suc, not-suc-le-zero, le_of_suc-le-suc, eq-or-lt_of_le, div-div-eq-div-mul, pow-suc, add-mul, mul_assoc, mul_comm, mod-lt, div-add-mod', div-lt_iff_lt-mul, zero-add, add-zero, lit<, pow_pos, arith, length, get_or, get_or-replicate, List·getD-append, get_or_at, bit_and, bit_xor, bit_or, and_mask, or_shifted, xor_zero_r, xor_block, xor_lt, xor_self}
 use Rattle.blocks.specs.Block.{Bytes, Block, ◌⊕◌, zeros}
 use Rattle.blocks.specs.Number.{number_of, number, big_endian}
 use Rattle.blocks.specs.Double.{double, times_x}

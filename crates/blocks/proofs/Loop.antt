@@ -1,6 +1,7 @@
 -- The law of loops that write an array from the front (fips197's Loop), passed on; and what it gives for the front and for a part of a longer slice.
 -- And parts put one behind another.
-use Rattle.fips197.proofs.Kit.{◌≡◌, refl, sym, ap, ap₂, ◌∙◌, List, [], ◌∷◌, ◌++◌, map, append-nil, append_assoc, ℕ, zero, suc, ◌+◌, ◌-◌, ◌≤◌, ◌<◌, not-suc-le-zero, le_of_suc-le-suc, arith, length, get_or, take, drop, length-append, length-drop, take_all, take_at, drop_at, drop-drop, drop-length, put_mid}
+use Rattle.std.specs.Prelude.{◌≡◌, ◌∷◌, ◌++◌, ◌+◌, ◌-◌, ◌≤◌, ◌<◌}
+use Rattle.fips197.proofs.Kit.{refl, sym, ap, ap₂, ◌∙◌, List, [], map, append-nil, append_assoc, ℕ, zero, suc, not-suc-le-zero, le_of_suc-le-suc, arith, length, get_or, take, drop, length-append, length-drop, take_all, take_at, drop_at, drop-drop, drop-length, put_mid}
 pub use Rattle.fips197.proofs.Loop.{part, part_turn, part_read, part_done}
 
 pub map_at : (f : ℕ → ℕ) (l : List ℕ) (i : ℕ) → i < length l → get_or (map f l) i 0 ≡ f (get_or l i 0)

@@ -1,5 +1,6 @@
 -- Big-endian numbers and their bytes: each gives the other back; lengths and byte ranges; XOR byte by byte.
-use Rattle.fips197.proofs.Kit.{◌≡◌, refl, sym, ap, ap₂, ◌∙◌, subst, List, [], ◌∷◌, ◌++◌, ℕ, zero, suc, ◌+◌, ◌*◌, ◌/◌, ◌%◌, ◌^◌, ◌≤◌, ◌<◌, mod-lt, zero-lt-suc, pow-suc, mul_assoc, mul_comm, div-lt_iff_lt-mul, div-div-eq-div-mul, mod-eq_of_lt, pow_pos, add-one, arith, length, get_or, take, length-append, List·getD-append, get_or-append-add, take-suc, take_all, bit_xor, xor_shr, xor_mod}
+use Rattle.std.specs.Prelude.{◌≡◌, ◌∷◌, ◌++◌, ◌+◌, ◌*◌, ◌/◌, ◌%◌, ◌^◌, ◌≤◌, ◌<◌}
+use Rattle.fips197.proofs.Kit.{refl, sym, ap, ap₂, ◌∙◌, subst, List, [], ℕ, zero, suc, mod-lt, zero-lt-suc, pow-suc, mul_assoc, mul_comm, div-lt_iff_lt-mul, div-div-eq-div-mul, mod-eq_of_lt, pow_pos, add-one, arith, length, get_or, take, length-append, List·getD-append, get_or-append-add, take-suc, take_all, bit_xor, xor_shr, xor_mod}
 use Rattle.blocks.specs.Block.{Bytes, ◌⊕◌, zeros}
 use Rattle.blocks.specs.Number.{number_of, number, big_endian}
 use Rattle.blocks.proofs.Xor.{append-bytes, byte_at}

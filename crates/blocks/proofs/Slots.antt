@@ -1,5 +1,6 @@
 -- Blocks one after another in a list: writing one leaves the others, and a walk writes them all.
-use Rattle.fips197.proofs.Kit.{◌≡◌, refl, sym, ap, ap₂, ◌∙◌, List, ◌++◌, append_assoc, ◌⊎◌, inl, inr, ℕ, zero, suc, ◌+◌, ◌-◌, ◌*◌, ◌≤◌, ◌<◌, le_of_suc-le-suc, eq-or-lt_of_le, arith, add-one, length, take, drop, length-append, length-take, length-drop, take-append-drop, take-append-le, drop-append-le, drop-append-add, drop_at, take_at, drop-drop}
+use Rattle.std.specs.Prelude.{◌≡◌, ◌++◌, ◌⊎◌, ◌+◌, ◌-◌, ◌*◌, ◌≤◌, ◌<◌}
+use Rattle.fips197.proofs.Kit.{refl, sym, ap, ap₂, ◌∙◌, List, append_assoc, inl, inr, ℕ, zero, suc, le_of_suc-le-suc, eq-or-lt_of_le, arith, add-one, length, take, drop, length-append, length-take, length-drop, take-append-drop, take-append-le, drop-append-le, drop-append-add, drop_at, take_at, drop-drop}
 use Rattle.blocks.specs.Block.{slot, list_of}
 
 pub slot-length : (s : List ℕ) (k : ℕ) → 16 * k + 16 ≤ length s → length (slot s k) ≡ 16

@@ -1,5 +1,6 @@
 -- The laws of XOR and of bytes (fips197's Xor), passed on for the crates above; and equality of lists, as `same` decides it.
-use Rattle.fips197.proofs.Kit.{◌≡◌, refl, sym, ap, ap₂, ◌∙◌, Bool, true, false, ◌&&◌, List, [], ◌∷◌, ℕ, ◌+◌, ◌≤◌, ◌<◌, arith, add-one, eqb, length, get_or, drop, drop_of_length-le, drop-cons, eqb-true, eq-eqb, ne_eqb}
+use Rattle.std.specs.Prelude.{◌≡◌, ◌&&◌, ◌∷◌, ◌+◌, ◌≤◌, ◌<◌}
+use Rattle.fips197.proofs.Kit.{refl, sym, ap, ap₂, ◌∙◌, Bool, true, false, List, [], ℕ, arith, add-one, eqb, length, get_or, drop, drop_of_length-le, drop-cons, eqb-true, eq-eqb, ne_eqb}
 use Rattle.blocks.specs.Block.{◌⊕◌, zeros, same}
 pub use Rattle.fips197.proofs.Xor.{⊕_comm, ⊕_assoc, ⊕-length, ⊕_cancel, ⊕_self, ⊕-zeros, ⊕-at, ⊕-bytes, ⊕-block, block_cancel}
 pub use Rattle.fips197.proofs.Xor.{byte_at, bytes_from, append-bytes, take-bytes, drop-bytes, zeros-bytes, zeros-block}

@@ -1,5 +1,6 @@
 -- Blocks of zeros: a block is zero where the OR of its bytes is, and the first n blocks are where each of them is.
-use Rattle.fips197.proofs.Kit.{◌≡◌, refl, sym, ap, ap₂, ◌∙◌, Bool, true, false, ◌&&◌, true≢false, List, ◌⊎◌, inl, inr, ℕ, zero, suc, ◌+◌, ◌≤◌, ◌<◌, le_of_suc-le-suc, eq-or-lt_of_le, arith, add-one, eqb, length, get_or, drop, length-replicate, get_or-replicate, and-true, bit_or, and_le_r, ne_eqb}
+use Rattle.std.specs.Prelude.{◌≡◌, ◌&&◌, ◌⊎◌, ◌+◌, ◌≤◌, ◌<◌}
+use Rattle.fips197.proofs.Kit.{refl, sym, ap, ap₂, ◌∙◌, Bool, true, false, true≢false, List, inl, inr, ℕ, zero, suc, le_of_suc-le-suc, eq-or-lt_of_le, arith, add-one, eqb, length, get_or, drop, length-replicate, get_or-replicate, and-true, bit_or, and_le_r, ne_eqb}
 use lib.Bits.{or_zero_l, or_add_and}
 use Rattle.blocks.specs.Block.{zeros, slot, same, all_zero}
 use Rattle.blocks.proofs.Xor.{same_true, same_drop, same_end}

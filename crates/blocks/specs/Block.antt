@@ -1,7 +1,7 @@
 -- Bytes, blocks of 16 bytes and XOR: the definitions of fips197's Block, passed on as they are; and blocks that are zero. Cited by the
 -- contracts of this crate and of those above. Assumes nothing.
 use Rattle.std.specs.Prelude.{ℕ, zero, suc, Bool, true, ◌&&◌, List}
-pub use Rattle.fips197.specs.Block.{if◌then◌else◌, Bytes, Block, zeros}
+pub use Rattle.fips197.specs.Block.{Bytes, Block, zeros}
 unfoldable pub use Rattle.fips197.specs.Block.{◌⊕◌, slot, list_of, same}
 
 -- whether the first n blocks of a list of blocks are zero

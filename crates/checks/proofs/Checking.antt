@@ -1,5 +1,6 @@
 -- What passes all checks of a call is known.
-use Rattle.fips197.proofs.Kit.{◌≡◌, refl, true, ◌&&◌, List, ℕ, ◌≤◌, arith, eqb, leb, length, eqb-true, leb-true}
+use Rattle.std.specs.Prelude.{◌≡◌, ◌&&◌, ◌≤◌}
+use Rattle.fips197.proofs.Kit.{refl, true, List, ℕ, arith, eqb, leb, length, eqb-true, leb-true}
 use Rattle.incidence.specs.Count.{inside}
 use Rattle.incidence.proofs.Counting.{inside-low, inside-high}
 use Rattle.sizes.specs.Sizes.{known, family_of}

@@ -1,5 +1,6 @@
 -- Document 01's starred bench cards about the cipher, computed from the definitions.
-use Rattle.fips197.proofs.Kit.{◌≡◌, refl, [], ◌∷◌, ◌++◌}
+use Rattle.std.specs.Prelude.{◌≡◌, ◌∷◌, ◌++◌}
+use Rattle.fips197.proofs.Kit.{refl, []}
 use Rattle.blocks.specs.Block.{◌⊕◌, zeros}
 use Rattle.blocks.specs.Number.{number_of, number, big_endian}
 use Rattle.fips197.specs.Field.{xtimes, product_by, ◌•◌, power_by, power, inverse}

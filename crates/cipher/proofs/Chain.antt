@@ -1,6 +1,7 @@
 -- CMAC: padding, the last block, the chain over the message laid out, and the sizes.
-use Rattle.fips197.proofs.Kit.{◌≡◌, refl, sym, ap, ap₂, ◌∙◌, Bool, true, false, List, [], ◌∷◌, ◌++◌, ℕ, zero, suc, ◌+◌, ◌-◌, ◌*◌, ◌/◌, ◌≤◌, ◌<◌, arith, eqb, length, get_or, take, drop, length-append, length-drop, length-take, length-replicate, get_or-replicate, List·getD-append, get_or-append_seam, append_assoc, append_snoc, take-add, take_at, take-take, take_all, take-append-drop, ext_get_or, get_or-drop, drop_at, lt_of_le-ne, eq-eqb, ne_eqb, eqb-true, eqb-false}
-use Rattle.blocks.specs.Block.{if◌then◌else◌, Bytes, Block, ◌⊕◌, zeros}
+use Rattle.std.specs.Prelude.{◌≡◌, ◌∷◌, ◌++◌, ◌+◌, ◌-◌, ◌*◌, ◌/◌, ◌≤◌, ◌<◌, if◌then◌else◌}
+use Rattle.fips197.proofs.Kit.{refl, sym, ap, ap₂, ◌∙◌, Bool, true, false, List, [], ℕ, zero, suc, arith, eqb, length, get_or, take, drop, length-append, length-drop, length-take, length-replicate, get_or-replicate, List·getD-append, get_or-append_seam, append_assoc, append_snoc, take-add, take_at, take-take, take_all, take-append-drop, ext_get_or, get_or-drop, drop_at, lt_of_le-ne, eq-eqb, ne_eqb, eqb-true, eqb-false}
+use Rattle.blocks.specs.Block.{Bytes, Block, ◌⊕◌, zeros}
 use Rattle.blocks.specs.Chain.{chain}
 use Rattle.cipher.specs.Cmac.{subkey1, subkey2, block_count, padded, last_block, laid_out, mac_by}
 use Rattle.blocks.proofs.Chaining.{chain_next, chain-front}

@@ -1,6 +1,7 @@
 -- What a crate above may use of the ciphers and of CMAC: sizes and byte ranges, and that deciphering undoes enciphering and the
 -- reverse. It rules nothing of what AES is. The laws of XOR and of numbers that it shares are in Xor, Numbers and Doubling.
-use Rattle.fips197.proofs.Kit.{◌≡◌, ap, List, ℕ, arith, length}
+use Rattle.std.specs.Prelude.{◌≡◌}
+use Rattle.fips197.proofs.Kit.{ap, List, ℕ, arith, length}
 use Rattle.blocks.specs.Block.{Bytes, Block}
 use Rattle.cipher.specs.Aes.{encipher, cipher, inv_cipher}
 use Rattle.cipher.specs.Cmac.{subkey1, subkey2, mac_by, cmac, ready, mac_with}

@@ -1,6 +1,6 @@
 -- SP 800-38B, section 6: CMAC with AES-128 (also RFC 4493). Document 01: card codes and seals. Assumes nothing.
-use Rattle.std.specs.Prelude.{List, ◌∷◌, ◌++◌, ℕ, ◌+◌, ◌-◌, ◌*◌, ◌/◌, max, eqb, length, take, drop}
-use Rattle.blocks.specs.Block.{if◌then◌else◌, ◌⊕◌, zeros}
+use Rattle.std.specs.Prelude.{List, ◌∷◌, ◌++◌, ℕ, ◌+◌, ◌-◌, ◌*◌, ◌/◌, max, eqb, length, take, drop, if◌then◌else◌}
+use Rattle.blocks.specs.Block.{◌⊕◌, zeros}
 use Rattle.blocks.specs.Double.{double}
 use Rattle.blocks.specs.Chain.{chain}
 use Rattle.cipher.specs.Aes.{key_expansion, cipher, encipher}

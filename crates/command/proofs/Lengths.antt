@@ -1,6 +1,6 @@
 -- How long the lines and the name are at most: a number below 2^64 has at most 20 digits.
-use Rattle.fips197.proofs.Kit.{◌≡◌, refl, ap, Bool, true, false, List, ℕ, ◌+◌, ◌^◌, ◌≤◌, ◌<◌, arith, eqb, length, length-append, eq-eqb, ne_eqb}
-use Rattle.blocks.specs.Block.{if◌then◌else◌}
+use Rattle.std.specs.Prelude.{◌≡◌, ◌+◌, ◌^◌, ◌≤◌, ◌<◌, if◌then◌else◌}
+use Rattle.fips197.proofs.Kit.{refl, ap, Bool, true, false, List, ℕ, arith, eqb, length, length-append, eq-eqb, ne_eqb}
 use Rattle.sizes.specs.Sizes.{family_of}
 use Rattle.sizes.proofs.Laws.{items_few, tags_few, limit_few}
 use Rattle.stamp.proofs.Fronts.{front-most}

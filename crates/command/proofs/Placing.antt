@@ -1,5 +1,6 @@
 -- What is said of one card packed.
-use Rattle.fips197.proofs.Kit.{◌≡◌, refl, ◌∙◌, ap, List, ℕ, ◌+◌, ◌≤◌, arith, length, eq-eqb, ne_eqb}
+use Rattle.std.specs.Prelude.{◌≡◌, ◌+◌, ◌≤◌}
+use Rattle.fips197.proofs.Kit.{refl, ◌∙◌, ap, List, ℕ, arith, length, eq-eqb, ne_eqb}
 use Rattle.files.specs.declared.Refusal.{Refusal}
 use Rattle.files.specs.Refusals.{refusal}
 use Rattle.files.proofs.Passing.{given, kept}

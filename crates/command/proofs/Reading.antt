@@ -1,6 +1,6 @@
 -- The digits of a text read one after another, and that the digits of a number are read back.
-use Rattle.fips197.proofs.Kit.{◌≡◌, refl, sym, ◌∙◌, ap, subst, Bool, true, false, ◌&&◌, List, [], ◌∷◌, ◌++◌, ℕ, zero, suc, ◌+◌, ◌-◌, ◌*◌, ◌/◌, ◌%◌, ◌^◌, ◌≤◌, ◌<◌, arith, add-one, eqb, leb, ltb, length, get_or, drop, length-append, drop_of_length-le, drop-cons, leb-true, leb-false, le-leb, lt-leb, ltb-true, ltb-false, lt-ltb, le-ltb, eqb-true, eqb-false}
-use Rattle.blocks.specs.Block.{if◌then◌else◌}
+use Rattle.std.specs.Prelude.{◌≡◌, ◌&&◌, ◌∷◌, ◌++◌, ◌+◌, ◌-◌, ◌*◌, ◌/◌, ◌%◌, ◌^◌, ◌≤◌, ◌<◌, if◌then◌else◌}
+use Rattle.fips197.proofs.Kit.{refl, sym, ◌∙◌, ap, subst, Bool, true, false, List, [], ℕ, zero, suc, arith, add-one, eqb, leb, ltb, length, get_or, drop, length-append, drop_of_length-le, drop-cons, leb-true, leb-false, le-leb, lt-leb, ltb-true, ltb-false, lt-ltb, le-ltb, eqb-true, eqb-false}
 use Rattle.incidence.proofs.Booleans.{and_left, and_right, and_both, and_false_l, and_false_r}
 use Rattle.printing.specs.Text.{decimal}
 use Rattle.printing.proofs.Decimals.{before, decimal-last}

@@ -1,7 +1,6 @@
 -- A number typed as a word: decimal digits, at least one, that write a number below 2^64, or one below 2^32. Cited by the contracts of
 -- `number_in` and `number32_in`. Assumes nothing.
-use Rattle.std.specs.Prelude.{Bool, true, false, ◌&&◌, List, [], ◌∷◌, ℕ, ◌+◌, ◌-◌, ◌*◌, ◌^◌, leb, ltb, length}
-use Rattle.blocks.specs.Block.{if◌then◌else◌}
+use Rattle.std.specs.Prelude.{Bool, true, false, ◌&&◌, List, [], ◌∷◌, ℕ, ◌+◌, ◌-◌, ◌*◌, ◌^◌, leb, ltb, length, if◌then◌else◌}
 use Rattle.command.specs.declared.numbers.Parsed.{Parsed}
 use Rattle.command.specs.declared.numbers.Parsed32.{Parsed32}
 

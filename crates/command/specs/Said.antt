@@ -1,6 +1,5 @@
 -- The lines that the command prints beside the report program's, and the name of a file that is not whole yet. Assumes nothing.
-use Rattle.std.specs.Prelude.{List, ◌++◌, ℕ, eqb}
-use Rattle.blocks.specs.Block.{if◌then◌else◌}
+use Rattle.std.specs.Prelude.{List, ◌++◌, ℕ, eqb, if◌then◌else◌}
 use Rattle.sizes.specs.Sizes.{family_of}
 use Rattle.files.specs.TagFile.{stamp_for, head_for, file_size}
 use Rattle.printing.specs.Text.{ascii, labelled}

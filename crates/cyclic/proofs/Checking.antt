@@ -1,7 +1,8 @@
 -- The check polynomial of any list: its degree and the generator polynomial's make m, it takes to 0 what D(x) makes of any sequence of period m, and the
 -- generator polynomial is a multiple of D(x) there (Bézout's identity).
-use Rattle.fips197.proofs.Kit.{◌≡◌, refl, sym, ap, ap₂, ◌∙◌, Bool, true, false, ◌&&◌, xor, List, [], ◌∷◌, ◌++◌, map, ℕ, zero, suc, ◌+◌, ◌-◌, ◌≤◌, ◌<◌, arith, eqb, ltb, set}
-use Rattle.blocks.specs.Block.{if◌then◌else◌, ◌⊕◌, zeros}
+use Rattle.std.specs.Prelude.{◌≡◌, ◌&&◌, ◌∷◌, ◌++◌, ◌+◌, ◌-◌, ◌≤◌, ◌<◌, if◌then◌else◌}
+use Rattle.fips197.proofs.Kit.{refl, sym, ap, ap₂, ◌∙◌, Bool, true, false, xor, List, [], map, ℕ, zero, suc, arith, eqb, ltb, set}
+use Rattle.blocks.specs.Block.{◌⊕◌, zeros}
 use Rattle.incidence.specs.Family.{parity}
 use Rattle.polynomials.specs.Polynomial.{longer, poly_size, raised, gcd}
 use Rattle.incidence.proofs.Parity.{xor-none, xor_turn, xor_four, xor_self, xor-and, parity_ext, parity-append, parity-map}

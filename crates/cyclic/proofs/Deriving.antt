@@ -1,5 +1,6 @@
 -- From the list to the pattern: the arrays of m + 1 coefficients, what they hold one after another, and where the call refuses.
-use Rattle.fips197.proofs.Kit.{◌≡◌, refl, sym, ap, ap₂, ◌∙◌, true, false, ◌||◌, List, ◌∷◌, ◌++◌, ℕ, zero, suc, ◌+◌, ◌-◌, ◌≤◌, ◌<◌, arith, eqb, ltb, length, take, drop, eq-eqb, ne_eqb}
+use Rattle.std.specs.Prelude.{◌≡◌, ◌||◌, ◌∷◌, ◌++◌, ◌+◌, ◌-◌, ◌≤◌, ◌<◌}
+use Rattle.fips197.proofs.Kit.{refl, sym, ap, ap₂, ◌∙◌, true, false, List, ℕ, zero, suc, arith, eqb, ltb, length, take, drop, eq-eqb, ne_eqb}
 use Rattle.blocks.specs.Block.{zeros}
 use Rattle.incidence.proofs.Booleans.{or-first, or_second}
 use Rattle.polynomials.specs.Polynomial.{gcd, quotient}

@@ -1,6 +1,6 @@
 -- The steps back that a polynomial's terms stand for, written one behind another: those passed stand at the front.
-use Rattle.fips197.proofs.Kit.{◌≡◌, refl, sym, ap, ap₂, ◌∙◌, subst, Bool, true, false, List, [], ◌∷◌, ◌++◌, append_assoc, ℕ, suc, ◌+◌, ◌-◌, ◌≤◌, ◌<◌, arith, add-one, eqb, length, get_or, set, drop, length-append, drop-cons, set_at, ne_eqb}
-use Rattle.blocks.specs.Block.{if◌then◌else◌}
+use Rattle.std.specs.Prelude.{◌≡◌, ◌∷◌, ◌++◌, ◌+◌, ◌-◌, ◌≤◌, ◌<◌, if◌then◌else◌}
+use Rattle.fips197.proofs.Kit.{refl, sym, ap, ap₂, ◌∙◌, subst, Bool, true, false, List, [], append_assoc, ℕ, suc, arith, add-one, eqb, length, get_or, set, drop, length-append, drop-cons, set_at, ne_eqb}
 use Rattle.incidence.specs.Count.{indicator, listed}
 use Rattle.incidence.proofs.Counting.{count_most}
 use Rattle.incidence.proofs.Listing.{listed-length}

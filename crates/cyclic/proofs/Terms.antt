@@ -1,6 +1,7 @@
 -- Sums of terms, written into zeros: x^m + 1, and D(x) from the last member of the list to the first.
-use Rattle.fips197.proofs.Kit.{◌≡◌, refl, sym, ap, ◌∙◌, Bool, true, false, List, [], ◌∷◌, ◌++◌, ℕ, zero, suc, ◌-◌, ◌≤◌, ◌<◌, arith, ltb, length, get_or, set, drop, length-append, length-set, length-replicate, drop-length, drop-cons}
-use Rattle.blocks.specs.Block.{if◌then◌else◌, zeros}
+use Rattle.std.specs.Prelude.{◌≡◌, ◌∷◌, ◌++◌, ◌-◌, ◌≤◌, ◌<◌, if◌then◌else◌}
+use Rattle.fips197.proofs.Kit.{refl, sym, ap, ◌∙◌, Bool, true, false, List, [], ℕ, zero, suc, arith, ltb, length, get_or, set, drop, length-append, length-set, length-replicate, drop-length, drop-cons}
+use Rattle.blocks.specs.Block.{zeros}
 use Rattle.polynomials.proofs.Dividing.{zeros-long}
 use Rattle.cyclic.specs.CyclicCode.{modulus, of_list}
 

@@ -1,8 +1,8 @@
 -- The binary cyclic code of length m that a difference list generates, its generator polynomial and its check polynomial, and the row pattern
 -- that they give (document 02, 2.6). Words of the code are polynomials modulo x^m + 1, in which the coefficient of x^j stands for card j, and that of
 -- x^0 for card m. D(x) is the sum of x^e over the members e of the list, and row i is x^i D(x). Assumes nothing.
-use Rattle.std.specs.Prelude.{List, [], ◌∷◌, ◌++◌, ℕ, suc, ◌-◌, eqb, ltb, get_or, set}
-use Rattle.blocks.specs.Block.{if◌then◌else◌, zeros}
+use Rattle.std.specs.Prelude.{List, [], ◌∷◌, ◌++◌, ℕ, suc, ◌-◌, eqb, ltb, get_or, set, if◌then◌else◌}
+use Rattle.blocks.specs.Block.{zeros}
 use Rattle.incidence.specs.Count.{listed}
 use Rattle.polynomials.specs.Polynomial.{poly_size, gcd, quotient}
 

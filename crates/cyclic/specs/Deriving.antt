@@ -1,6 +1,5 @@
 -- What `pattern` answers and writes, for any number m, any list and any buffer lent. Assumes nothing.
-use Rattle.std.specs.Prelude.{Bool, true, false, ◌||◌, List, ◌++◌, ℕ, eqb, ltb, length, drop}
-use Rattle.blocks.specs.Block.{if◌then◌else◌}
+use Rattle.std.specs.Prelude.{Bool, true, false, ◌||◌, List, ◌++◌, ℕ, eqb, ltb, length, drop, if◌then◌else◌}
 use Rattle.cyclic.specs.CyclicCode.{row_pattern}
 use Rattle.cyclic.specs.declared.Derived.{Derived}
 

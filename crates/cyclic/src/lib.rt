@@ -1,8 +1,8 @@
 // The row pattern of a difference list, by the check polynomial of the cyclic code that the list generates (document 02, request 2.6).
 #![tactic(auto)]
 
-ghost use Rattle.std.specs.Prelude.{◌≡◌, ◌++◌, suc, ◌+◌, ◌≤◌, ◌<◌, eqb, ltb, length, drop, set};
-ghost use Rattle.blocks.specs.Block.{if◌then◌else◌, zeros};
+ghost use Rattle.std.specs.Prelude.{◌≡◌, ◌++◌, suc, ◌+◌, ◌≤◌, ◌<◌, eqb, ltb, length, drop, set, if◌then◌else◌};
+ghost use Rattle.blocks.specs.Block.{zeros};
 ghost use Rattle.incidence.specs.Count.{indicator};
 ghost use Rattle.cyclic.specs.CyclicCode.{modulus, of_list, steps_back, row_pattern};
 ghost use Rattle.cyclic.specs.Deriving.{pattern_answer, pattern_writes};

@@ -1,6 +1,7 @@
 -- Which rows agree: tests that are equal on the rows give equal marks; rows filled in from the tags agree as the tags' differences say; and
 -- where no tag differs, every row agrees.
-use Rattle.fips197.proofs.Kit.{◌≡◌, refl, ap, ap₂, Bool, true, false, List, [], ◌∷◌, ◌++◌, ℕ, zero, suc, ◌-◌, ◌≤◌, arith, leb, leb-true, leb-false}
+use Rattle.std.specs.Prelude.{◌≡◌, ◌∷◌, ◌++◌, ◌-◌, ◌≤◌}
+use Rattle.fips197.proofs.Kit.{refl, ap, ap₂, Bool, true, false, List, [], ℕ, zero, suc, arith, leb, leb-true, leb-false}
 use Rattle.blocks.specs.Block.{zeros, same, all_zero}
 use Rattle.blocks.proofs.Xor.{same_eq}
 use Rattle.blocks.proofs.Zeros.{zero_slot}

@@ -1,7 +1,8 @@
 -- Arrays of marks: one mark written leaves the others, what two steps clear is what either clears, and an array whose marks are known is
 -- a list.
-use Rattle.fips197.proofs.Kit.{◌≡◌, refl, sym, ap, ap₂, ◌∙◌, subst, Bool, true, false, not, ◌&&◌, ◌||◌, List, [], ◌∷◌, ◌++◌, ℕ, zero, suc, ◌+◌, ◌-◌, ◌≤◌, ◌<◌, arith, eqb, length, get_or, set, take, drop, length-set, take-append-drop, take-suc, drop-drop, get_or-set_same, get_or-set_other, drop-set-lt, eqb-true, eqb-false, ne_eqb}
-use Rattle.blocks.specs.Block.{if◌then◌else◌, zeros}
+use Rattle.std.specs.Prelude.{◌≡◌, ◌&&◌, ◌||◌, ◌∷◌, ◌++◌, ◌+◌, ◌-◌, ◌≤◌, ◌<◌, if◌then◌else◌}
+use Rattle.fips197.proofs.Kit.{refl, sym, ap, ap₂, ◌∙◌, subst, Bool, true, false, not, List, [], ℕ, zero, suc, arith, eqb, length, get_or, set, take, drop, length-set, take-append-drop, take-suc, drop-drop, get_or-set_same, get_or-set_other, drop-set-lt, eqb-true, eqb-false, ne_eqb}
+use Rattle.blocks.specs.Block.{zeros}
 use Rattle.incidence.specs.Count.{indicator, count_up_to, any_up_to}
 use Rattle.incidence.specs.Family.{Family, holds_one, Lawful}
 use Rattle.incidence.specs.Report.{cleared, named, number_named, disagreeing, some_unexplained, answer_by, answer}

@@ -1,8 +1,9 @@
 -- What whoever watches the pass may rely on (document 02, 2.4), by the clauses of `clear_agreeing` alone, of two passes over the same marks: the
 -- longer one leaves no more items marked, and one row more changes marks of that row alone. That it counts no fewer rows is `incidence`'s
 -- (Walking). And where every row agrees, the pass over all of them is what `intact` does.
-use Rattle.fips197.proofs.Kit.{◌≡◌, refl, sym, ap, ◌∙◌, Bool, true, false, not, ◌&&◌, true≢false, List, ◌++◌, ℕ, suc, ◌≤◌, eqb, length, drop, eqb-true, eq-eqb}
-use Rattle.blocks.specs.Block.{if◌then◌else◌, zeros}
+use Rattle.std.specs.Prelude.{◌≡◌, ◌&&◌, ◌++◌, ◌≤◌, if◌then◌else◌}
+use Rattle.fips197.proofs.Kit.{refl, sym, ap, ◌∙◌, Bool, true, false, not, true≢false, List, ℕ, suc, eqb, length, drop, eqb-true, eq-eqb}
+use Rattle.blocks.specs.Block.{zeros}
 use Rattle.incidence.specs.Count.{count_up_to}
 use Rattle.incidence.specs.Family.{Family, Lawful}
 use Rattle.incidence.specs.Report.{cleared, named, disagreeing}

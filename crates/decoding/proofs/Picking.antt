@@ -1,5 +1,6 @@
 -- What the loops know, of the marks counted, of a row's items and of the rows compared: at first, after one turn more, and at the end.
-use Rattle.fips197.proofs.Kit.{◌≡◌, refl, sym, ap, ap₂, ◌∙◌, subst, Bool, true, false, not, ◌&&◌, ◌||◌, true≢false, List, ◌⊎◌, inl, inr, ℕ, suc, ◌+◌, ◌-◌, ◌≤◌, ◌<◌, arith, add-one, eqb, leb, length, get_or, eqb-true, eq-eqb, ne_eqb, leb-true, le-leb}
+use Rattle.std.specs.Prelude.{◌≡◌, ◌&&◌, ◌||◌, ◌⊎◌, ◌+◌, ◌-◌, ◌≤◌, ◌<◌}
+use Rattle.fips197.proofs.Kit.{refl, sym, ap, ap₂, ◌∙◌, subst, Bool, true, false, not, true≢false, List, inl, inr, ℕ, suc, arith, add-one, eqb, leb, length, get_or, eqb-true, eq-eqb, ne_eqb, leb-true, le-leb}
 use Rattle.incidence.specs.Count.{indicator, count_up_to, any_up_to}
 use Rattle.incidence.specs.Family.{Family, items_of, holds_one}
 use Rattle.incidence.specs.Report.{cleared, disagreeing}

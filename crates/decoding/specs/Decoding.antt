@@ -1,7 +1,7 @@
 -- Document 01, Report, over an array of differences: of each row, the XOR of the message's sum and the tag file's (000, section 3.1: naïve
 -- decoding). Assumes nothing.
-use Rattle.std.specs.Prelude.{◌≡◌, Bool, not, ◌&&◌, List, [], ◌∷◌, ◌++◌, ℕ, zero, suc, ◌-◌, ◌≤◌, eqb, length, get_or, drop}
-use Rattle.blocks.specs.Block.{if◌then◌else◌, zeros, same}
+use Rattle.std.specs.Prelude.{◌≡◌, Bool, not, ◌&&◌, List, [], ◌∷◌, ◌++◌, ℕ, zero, suc, ◌-◌, ◌≤◌, eqb, length, get_or, drop, if◌then◌else◌}
+use Rattle.blocks.specs.Block.{zeros, same}
 use Rattle.incidence.specs.Count.{indicator}
 use Rattle.incidence.specs.Family.{Family, holds_one}
 use Rattle.incidence.specs.Sum.{expanded}

@@ -1,6 +1,7 @@
 -- Of any matrix whose first t rows are independent: two lists of steps that yield row t + 1 have the same steps an odd number of times. So one
 -- choice of steps alone yields it, and no list of fewer does.
-use Rattle.fips197.proofs.Kit.{◌≡◌, refl, sym, ap, ap₂, ◌∙◌, Bool, true, false, ◌&&◌, xor, and-true, and-false, and_comm, List, [], ◌∷◌, ◌++◌, ◌⊎◌, inl, inr, ℕ, zero, suc, ◌+◌, ◌-◌, ◌≤◌, ◌<◌, arith, eqb, length, eqb-true, eqb-false, eq-eqb, ne_eqb}
+use Rattle.std.specs.Prelude.{◌≡◌, ◌&&◌, ◌∷◌, ◌++◌, ◌⊎◌, ◌+◌, ◌-◌, ◌≤◌, ◌<◌}
+use Rattle.fips197.proofs.Kit.{refl, sym, ap, ap₂, ◌∙◌, Bool, true, false, xor, and-true, and-false, and_comm, List, [], inl, inr, ℕ, zero, suc, arith, eqb, length, eqb-true, eqb-false, eq-eqb, ne_eqb}
 use Rattle.incidence.specs.Count.{indicator, count_up_to, listed}
 use Rattle.incidence.specs.Family.{parity}
 use Rattle.incidence.proofs.Counting.{last_or, bit-most, count_ext, count_none}

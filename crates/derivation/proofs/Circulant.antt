@@ -1,7 +1,8 @@
 -- The rows of a circulant are turns of one sequence of bits. What steps back say of one row they say of that sequence, at every place of it,
 -- and of every XOR of its turns. So where one of these has degree n, steps that reach fewer than m − n rows back yield no row: the argument
 -- from degrees, for any m and any list.
-use Rattle.fips197.proofs.Kit.{◌≡◌, refl, sym, ap, ap₂, ◌∙◌, Bool, true, false, xor, true≢false, List, [], ◌∷◌, map, ℕ, ◌+◌, ◌-◌, ◌*◌, ◌/◌, ◌%◌, ◌≤◌, ◌<◌, mod-add-mod, mod-lt, div-add-mod', add-mul-mod_self_right, arith, ltb, ltb-true, ltb-false}
+use Rattle.std.specs.Prelude.{◌≡◌, ◌∷◌, ◌+◌, ◌-◌, ◌*◌, ◌/◌, ◌%◌, ◌≤◌, ◌<◌}
+use Rattle.fips197.proofs.Kit.{refl, sym, ap, ap₂, ◌∙◌, Bool, true, false, xor, true≢false, List, [], map, ℕ, mod-add-mod, mod-lt, div-add-mod', add-mul-mod_self_right, arith, ltb, ltb-true, ltb-false}
 use Rattle.incidence.specs.Family.{parity}
 use Rattle.plane.specs.Plane.{member, on}
 use Rattle.plane.proofs.Cyclic.{on-inside}

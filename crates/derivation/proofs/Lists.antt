@@ -1,8 +1,8 @@
 -- Any difference list, and any m but 0: the pattern that the check polynomial gives yields every row behind the first t, t being its degree, no shorter
 -- pattern yields any row, and the first t rows are independent. Where there is a row behind them, that pattern is the only one within t, and none there has
 -- fewer steps.
-use Rattle.fips197.proofs.Kit.{◌≡◌, refl, sym, ap, ap₂, ◌∙◌, Bool, true, false, ◌&&◌, xor, List, [], ◌∷◌, ◌++◌, map, ℕ, zero, suc, ◌+◌, ◌-◌, ◌%◌, ◌≤◌, ◌<◌, add-mod_right, mod-eq_of_lt, zero-mod, arith, eqb, length, get_or, take, eq-eqb, ne_eqb}
-use Rattle.blocks.specs.Block.{if◌then◌else◌}
+use Rattle.std.specs.Prelude.{◌≡◌, ◌&&◌, ◌∷◌, ◌++◌, ◌+◌, ◌-◌, ◌%◌, ◌≤◌, ◌<◌, if◌then◌else◌}
+use Rattle.fips197.proofs.Kit.{refl, sym, ap, ap₂, ◌∙◌, Bool, true, false, xor, List, [], map, ℕ, zero, suc, add-mod_right, mod-eq_of_lt, zero-mod, arith, eqb, length, get_or, take, eq-eqb, ne_eqb}
 use Rattle.incidence.specs.Count.{listed}
 use Rattle.incidence.specs.Family.{parity}
 use Rattle.incidence.proofs.Listing.{listed_ext}

@@ -1,6 +1,6 @@
 -- Of any matrix: steps that do not yield a row fail at a card, and rows none of which is had from those before it are independent.
-use Rattle.fips197.proofs.Kit.{◌≡◌, refl, sym, ap, ap₂, ◌∙◌, Bool, true, false, xor, List, [], ◌∷◌, ◌++◌, map, ◌⊎◌, inl, inr, ℕ, zero, suc, ◌-◌, ◌≤◌, arith}
-use Rattle.blocks.specs.Block.{if◌then◌else◌}
+use Rattle.std.specs.Prelude.{◌≡◌, ◌∷◌, ◌++◌, ◌⊎◌, ◌-◌, ◌≤◌, if◌then◌else◌}
+use Rattle.fips197.proofs.Kit.{refl, sym, ap, ap₂, ◌∙◌, Bool, true, false, xor, List, [], map, inl, inr, ℕ, zero, suc, arith}
 use Rattle.incidence.specs.Count.{any_up_to, listed}
 use Rattle.incidence.specs.Family.{parity}
 use Rattle.incidence.proofs.Booleans.{not_both, not_passed}

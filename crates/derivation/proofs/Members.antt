@@ -1,5 +1,6 @@
 -- The difference lists in the code: their members are numbers of 16 bits, none above 273; and what the pattern of a list handed on is.
-use Rattle.fips197.proofs.Kit.{◌≡◌, refl, sym, ap, ap₂, ◌∙◌, Bool, true, false, List, ◌++◌, ℕ, ◌-◌, ◌≤◌, ◌<◌, arith, length, get_or, take, drop, take_at, le-ltb}
+use Rattle.std.specs.Prelude.{◌≡◌, ◌++◌, ◌-◌, ◌≤◌, ◌<◌}
+use Rattle.fips197.proofs.Kit.{refl, sym, ap, ap₂, ◌∙◌, Bool, true, false, List, ℕ, arith, length, get_or, take, drop, take_at, le-ltb}
 use Rattle.incidence.proofs.Counting.{every, every_at}
 use Rattle.plane.specs.Table.{plane_items, difference_lists, differences}
 use Rattle.plane.proofs.Ranks.{under, under_at}

@@ -1,6 +1,7 @@
 -- The four planes: the patterns in use are those derived, and so no shorter patterns, and within t no others and none of fewer steps, yield their rows, and
 -- the tagged rows are independent. What is computed is one test over the four lists; the rest holds of any list (Lists).
-use Rattle.fips197.proofs.Kit.{◌≡◌, refl, subst, Bool, true, ◌&&◌, List, ℕ, suc, ◌+◌, ◌-◌, ◌^◌, ◌≤◌, ◌<◌, arith, eqb, ltb, eqb-true, ltb-true}
+use Rattle.std.specs.Prelude.{◌≡◌, ◌&&◌, ◌+◌, ◌-◌, ◌^◌, ◌≤◌, ◌<◌}
+use Rattle.fips197.proofs.Kit.{refl, subst, Bool, true, List, ℕ, suc, arith, eqb, ltb, eqb-true, ltb-true}
 use Rattle.blocks.specs.Block.{◌⊕◌, same}
 use Rattle.blocks.proofs.Xor.{same_true}
 use Rattle.incidence.proofs.Booleans.{and_left, and_right}

@@ -1,5 +1,6 @@
 -- The lines of the four sizes: one more behind the others, those of the patterns in use, and that they fit 256 bytes.
-use Rattle.fips197.proofs.Kit.{◌≡◌, refl, sym, ap, ap₂, ◌∙◌, Bool, true, List, ◌++◌, ℕ, zero, suc, ◌+◌, ◌-◌, ◌≤◌, zero-add, arith, leb, length, take, drop, leb-true}
+use Rattle.std.specs.Prelude.{◌≡◌, ◌++◌, ◌+◌, ◌-◌, ◌≤◌}
+use Rattle.fips197.proofs.Kit.{refl, sym, ap, ap₂, ◌∙◌, Bool, true, List, ℕ, zero, suc, zero-add, arith, leb, length, take, drop, leb-true}
 use Rattle.incidence.proofs.Counting.{every, every_at}
 use Rattle.plane.specs.Table.{pattern_lists, plane_pattern}
 use Rattle.printing.specs.Text.{ascii, digits, decimal, labelled, over}

@@ -1,7 +1,7 @@
 -- The rows of a circulant as D(x) makes them: acting on the sequence that is 1 at card j and at every m-th place from it, D(x) gives at place i whether row i
 -- holds card j; and any polynomial of degree below m shows its coefficients there.
-use Rattle.fips197.proofs.Kit.{◌≡◌, refl, sym, ap, ap₂, ◌∙◌, Bool, true, false, ◌&&◌, ◌||◌, xor, and-true, and-false, List, [], ◌∷◌, ℕ, zero, suc, ◌+◌, ◌-◌, ◌*◌, ◌/◌, ◌%◌, ◌≤◌, ◌<◌, add-mod_right, mod-add-mod, mod-lt, mod-eq_of_lt, mod_self, div-add-mod', add-mul-mod_self_right, arith, eqb, ltb, get_or, set, take, get_or-set_same, get_or-set_other, eqb-true, eqb-false, eq-eqb, ne_eqb, ltb-true, ltb-false}
-use Rattle.blocks.specs.Block.{if◌then◌else◌}
+use Rattle.std.specs.Prelude.{◌≡◌, ◌&&◌, ◌||◌, ◌∷◌, ◌+◌, ◌-◌, ◌*◌, ◌/◌, ◌%◌, ◌≤◌, ◌<◌, if◌then◌else◌}
+use Rattle.fips197.proofs.Kit.{refl, sym, ap, ap₂, ◌∙◌, Bool, true, false, xor, and-true, and-false, List, [], ℕ, zero, suc, add-mod_right, mod-add-mod, mod-lt, mod-eq_of_lt, mod_self, div-add-mod', add-mul-mod_self_right, arith, eqb, ltb, get_or, set, take, get_or-set_same, get_or-set_other, eqb-true, eqb-false, eq-eqb, ne_eqb, ltb-true, ltb-false}
 use Rattle.plane.specs.Plane.{member, on}
 use Rattle.plane.proofs.Cyclic.{on-inside}
 use Rattle.polynomials.specs.Polynomial.{poly_size}

@@ -1,5 +1,6 @@
 -- The words of a pattern: one step more, and the room that fewer take.
-use Rattle.fips197.proofs.Kit.{◌≡◌, refl, sym, ap, ap₂, ◌∙◌, List, [], ◌∷◌, ◌++◌, append-nil, append_assoc, ℕ, zero, suc, ◌+◌, ◌≤◌, ◌<◌, arith, add-one, length, get_or, take, drop, length-append, take_at}
+use Rattle.std.specs.Prelude.{◌≡◌, ◌∷◌, ◌++◌, ◌+◌, ◌≤◌, ◌<◌}
+use Rattle.fips197.proofs.Kit.{refl, sym, ap, ap₂, ◌∙◌, List, [], append-nil, append_assoc, ℕ, zero, suc, arith, add-one, length, get_or, take, drop, length-append, take_at}
 use Rattle.printing.specs.Text.{labelled}
 use Rattle.derivation.specs.Lines.{words}
 use Rattle.derivation.specs.Derived.{derived}

@@ -1,6 +1,7 @@
 -- Demand 2: a tag file is accepted under a seal key exactly when its bytes are what the writer lays out and seals for some version, number, size
 -- code, count and tags.
-use Rattle.fips197.proofs.Kit.{◌≡◌, refl, sym, ap, ap₂, ◌∙◌, true, ◌&&◌, List, [], ◌∷◌, ◌++◌, append_assoc, ℕ, zero, suc, ◌+◌, ◌-◌, ◌*◌, ◌≤◌, ◌<◌, add-one, arith, eqb, leb, length, get_or, get_or-drop, take, drop, length-append, length-take, length-drop, take-append-drop, take-add, drop-cons, take-take, take_at, drop_at, drop-drop, take-nil, leb-true, eqb-true, eq-eqb, ltb-true, lt-ltb}
+use Rattle.std.specs.Prelude.{◌≡◌, ◌&&◌, ◌∷◌, ◌++◌, ◌+◌, ◌-◌, ◌*◌, ◌≤◌, ◌<◌}
+use Rattle.fips197.proofs.Kit.{refl, sym, ap, ap₂, ◌∙◌, true, List, [], append_assoc, ℕ, zero, suc, add-one, arith, eqb, leb, length, get_or, get_or-drop, take, drop, length-append, length-take, length-drop, take-append-drop, take-add, drop-cons, take-take, take_at, drop_at, drop-drop, take-nil, leb-true, eqb-true, eq-eqb, ltb-true, lt-ltb}
 use Rattle.blocks.specs.Block.{Bytes, same}
 use Rattle.blocks.specs.Number.{number, big_endian}
 use Rattle.cipher.specs.Cmac.{cmac}

@@ -1,6 +1,7 @@
 -- The message file: what each check of the code settles, and where the items of a file that is not refused lie.
+use Rattle.std.specs.Prelude.{◌≡◌, ◌&&◌, ◌⊎◌, ◌∷◌, ◌+◌, ◌-◌, ◌≤◌, ◌<◌}
 use denote.Ref.{Bor}
-use Rattle.fips197.proofs.Kit.{◌≡◌, refl, sym, ap, ap₂, ◌∙◌, Bool, true, false, ◌&&◌, ◌⊎◌, inl, inr, List, [], ◌∷◌, ℕ, zero, suc, ◌+◌, ◌-◌, ◌≤◌, ◌<◌, not-suc-le-zero, le_of_suc-le-suc, eq-or-lt_of_le, add-one, arith, eqb, leb, length, take, drop, leb-true, le-leb, lt-leb, eq-eqb, ne_eqb}
+use Rattle.fips197.proofs.Kit.{refl, sym, ap, ap₂, ◌∙◌, Bool, true, false, inl, inr, List, [], ℕ, zero, suc, not-suc-le-zero, le_of_suc-le-suc, eq-or-lt_of_le, add-one, arith, eqb, leb, length, take, drop, leb-true, le-leb, lt-leb, eq-eqb, ne_eqb}
 use Rattle.incidence.specs.Count.{inside}
 use Rattle.stamp.specs.Front.{version_of, begins_as}
 use Rattle.stamp.proofs.Fronts.{begins_as_so, begins_as_yes}

@@ -1,6 +1,6 @@
 -- Refusals: what passes is none, and the first of a list.
-use Rattle.fips197.proofs.Kit.{◌≡◌, refl, sym, ap, ap₂, ◌∙◌, Bool, true, false, ◌&&◌, List, [], ◌∷◌, ◌++◌, append-nil, ℕ, ◌<◌, arith, eqb, eqb-true, eqb-false, eq-eqb, ne_eqb}
-use Rattle.blocks.specs.Block.{if◌then◌else◌}
+use Rattle.std.specs.Prelude.{◌≡◌, ◌&&◌, ◌∷◌, ◌++◌, ◌<◌, if◌then◌else◌}
+use Rattle.fips197.proofs.Kit.{refl, sym, ap, ap₂, ◌∙◌, Bool, true, false, List, [], append-nil, ℕ, arith, eqb, eqb-true, eqb-false, eq-eqb, ne_eqb}
 use Rattle.files.specs.declared.Refusal.{Refusal}
 use Rattle.files.specs.Refusals.{refusal, none, unless, passes, first}
 

@@ -1,5 +1,6 @@
 -- The tag file: what each check of the code settles, and that what is accepted is what the writer lays out and seals.
-use Rattle.fips197.proofs.Kit.{◌≡◌, refl, sym, ap, ap₂, ◌∙◌, Bool, true, false, ◌&&◌, List, ◌∷◌, ◌++◌, ℕ, ◌+◌, ◌-◌, ◌≤◌, ◌<◌, arith, leb, length, take, drop, length-append, length-drop, take_all, le-leb, lt-leb}
+use Rattle.std.specs.Prelude.{◌≡◌, ◌&&◌, ◌∷◌, ◌++◌, ◌+◌, ◌-◌, ◌≤◌, ◌<◌}
+use Rattle.fips197.proofs.Kit.{refl, sym, ap, ap₂, ◌∙◌, Bool, true, false, List, ℕ, arith, leb, length, take, drop, length-append, length-drop, take_all, le-leb, lt-leb}
 use Rattle.blocks.specs.Block.{same}
 use Rattle.blocks.specs.Number.{big_endian}
 use Rattle.cipher.specs.Cmac.{cmac}

@@ -1,9 +1,8 @@
 -- The message file (document 01: shelf): "letters TBS, 2-byte version 1, 2-byte count, then for each card a 2-byte length and its bytes", and
 -- in version 2 the shelf's number behind the version (document 02, 2.3). What is refused of it, where its items (cards) lie, and what Fetch
 -- gives. Assumes nothing.
-use Rattle.std.specs.Prelude.{◌≡◌, Bool, ◌&&◌, List, [], ◌∷◌, ℕ, zero, suc, ◌+◌, ◌-◌, ◌≤◌, eqb, leb, length, take, drop}
+use Rattle.std.specs.Prelude.{◌≡◌, Bool, ◌&&◌, List, [], ◌∷◌, ℕ, zero, suc, ◌+◌, ◌-◌, ◌≤◌, eqb, leb, length, take, drop, if◌then◌else◌}
 use Rattle.std.specs.Borrow.{Bor}
-use Rattle.blocks.specs.Block.{if◌then◌else◌}
 use Rattle.blocks.specs.Number.{number}
 use Rattle.stamp.specs.Front.{front_size, version_of, begins_as}
 use Rattle.files.specs.declared.Refusal.{Refusal}

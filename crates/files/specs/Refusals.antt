@@ -1,6 +1,5 @@
 -- Refusals (document 01, 'From the input' and 'From the state'): a number and a place, and the first that applies. Assumes nothing.
-use Rattle.std.specs.Prelude.{Bool, List, [], ◌∷◌, ℕ, eqb}
-use Rattle.blocks.specs.Block.{if◌then◌else◌}
+use Rattle.std.specs.Prelude.{Bool, List, [], ◌∷◌, ℕ, eqb, if◌then◌else◌}
 use Rattle.files.specs.declared.Refusal.{Refusal}
 
 -- refusal n at place p; "a place, 0 unless named"

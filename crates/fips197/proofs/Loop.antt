@@ -1,6 +1,7 @@
 -- One law for every loop that writes an array from the front: where it is to become t, after i turns the array l is `part i t l`.
 -- A loop's invariant is that equation; a turn is `part_turn`, what is not yet written is `part_read`, and the end is `part_done`.
-use Rattle.fips197.proofs.Kit.{◌≡◌, refl, sym, ap, ◌∙◌, List, [], ◌∷◌, ◌++◌, append_assoc, ℕ, zero, suc, ◌+◌, ◌≤◌, ◌<◌, zero-le, not-suc-le-zero, le_of_suc-le-suc, add-one, length, get_or, set, take, drop, length-append, length-take, length-drop, take_at, take-append-drop, drop_of_length-le, drop-nil, get_or-append-add, List·getD-append, arith}
+use Rattle.std.specs.Prelude.{◌≡◌, ◌∷◌, ◌++◌, ◌+◌, ◌≤◌, ◌<◌}
+use Rattle.fips197.proofs.Kit.{refl, sym, ap, ◌∙◌, List, [], append_assoc, ℕ, zero, suc, zero-le, not-suc-le-zero, le_of_suc-le-suc, add-one, length, get_or, set, take, drop, length-append, length-take, length-drop, take_at, take-append-drop, drop_of_length-le, drop-nil, get_or-append-add, List·getD-append, arith}
 
 abbrev pub part : ℕ → List ℕ → List ℕ → List ℕ
 part i t l = take i t ++ drop i l

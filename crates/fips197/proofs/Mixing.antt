@@ -1,5 +1,6 @@
 -- MixColumns and its inverse undo each other: the product is additive, so that each is algebra over xtimes, and no table is needed.
-use Rattle.fips197.proofs.Kit.{◌≡◌, refl, sym, ap, ap₂, ◌∙◌, ℕ, zero, suc, ◌*◌, ◌/◌, ◌%◌, ◌<◌, zero-lt-suc, add-zero, zero-mul, one-mul, mul-zero, arith, bit_xor, xor_block, xor_mod, xor_shr, xor_lt, xor_self, xor_comm, xor_zero_r}
+use Rattle.std.specs.Prelude.{◌≡◌, ◌*◌, ◌/◌, ◌%◌, ◌<◌}
+use Rattle.fips197.proofs.Kit.{refl, sym, ap, ap₂, ◌∙◌, ℕ, zero, suc, zero-lt-suc, add-zero, zero-mul, one-mul, mul-zero, arith, bit_xor, xor_block, xor_mod, xor_shr, xor_lt, xor_self, xor_comm, xor_zero_r}
 use Rattle.fips197.specs.Field.{xtimes, product_by, ◌•◌}
 use Rattle.fips197.specs.Aes.{mixed, inv_mixed}
 use Rattle.fips197.proofs.Xor.{mod2_lt, xor_assoc, xor-left, sums}

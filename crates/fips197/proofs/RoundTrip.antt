@@ -1,5 +1,6 @@
 -- The cipher and the inverse cipher undo each other with any schedule of blocks: an induction over the rounds, step by step.
-use Rattle.fips197.proofs.Kit.{◌≡◌, sym, ap, ap₂, ◌∙◌, List, map, ℕ, zero, suc, ◌+◌, ◌-◌, ◌<◌, not-suc-le-zero, arith, add-one, length}
+use Rattle.std.specs.Prelude.{◌≡◌, ◌+◌, ◌-◌, ◌<◌}
+use Rattle.fips197.proofs.Kit.{sym, ap, ap₂, ◌∙◌, List, map, ℕ, zero, suc, not-suc-le-zero, arith, add-one, length}
 use Rattle.fips197.specs.Block.{Block, ◌⊕◌}
 use Rattle.fips197.specs.Aes.{inv_sbox, sub_bytes, inv_sub_bytes, shift_rows, inv_shift_rows, mix_columns, inv_mix_columns, round_key, rounds, cipher, inv_rounds, inv_cipher}
 use Rattle.fips197.proofs.Xor.{⊕-length, ⊕-block, block_cancel}

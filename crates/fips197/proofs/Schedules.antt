@@ -1,6 +1,7 @@
 -- The key schedule: its length, its bytes and its round keys, and what the engines' loops keep of it.
-use Rattle.fips197.proofs.Kit.{◌≡◌, refl, sym, ap, ap₂, ◌∙◌, Bool, true, false, List, [], ◌∷◌, ◌++◌, map, ℕ, zero, suc, ◌+◌, ◌-◌, ◌*◌, ◌/◌, ◌%◌, ◌≤◌, ◌<◌, zero-lt-suc, arith, eqb, length, get_or, take, drop, length-append, length-take, length-drop, take-append-le, drop-append-le, take_at, take_all, drop_at, drop-drop, drop-append-add, append_assoc, add-one, eq-eqb, ne_eqb}
-use Rattle.fips197.specs.Block.{if◌then◌else◌, Bytes, Block, ◌⊕◌}
+use Rattle.std.specs.Prelude.{◌≡◌, ◌∷◌, ◌++◌, ◌+◌, ◌-◌, ◌*◌, ◌/◌, ◌%◌, ◌≤◌, ◌<◌, if◌then◌else◌}
+use Rattle.fips197.proofs.Kit.{refl, sym, ap, ap₂, ◌∙◌, Bool, true, false, List, [], map, ℕ, zero, suc, zero-lt-suc, arith, eqb, length, get_or, take, drop, length-append, length-take, length-drop, take-append-le, drop-append-le, take_at, take_all, drop_at, drop-drop, drop-append-add, append_assoc, add-one, eq-eqb, ne_eqb}
+use Rattle.fips197.specs.Block.{Bytes, Block, ◌⊕◌}
 use Rattle.fips197.specs.Field.{power, power_by, ◌•◌}
 use Rattle.fips197.specs.Aes.{sbox, word, rot_word, sub_word, rcon, temp, expanded, key_expansion, round_key}
 use Rattle.fips197.specs.Words.{bytes_of, state_of}

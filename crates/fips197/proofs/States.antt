@@ -1,5 +1,6 @@
 -- The steps of a round take blocks to blocks, and each undoes its inverse, both ways.
-use Rattle.fips197.proofs.Kit.{◌≡◌, refl, sym, ap, ap₂, ◌∙◌, List, [], ◌∷◌, ◌++◌, map, ℕ, zero, suc, ◌+◌, ◌-◌, ◌*◌, ◌/◌, ◌%◌, ◌≤◌, ◌<◌, add-zero, arith, length, get_or, take, drop, length-map, length-take, length-drop, take-add, drop-drop, get_or-take, get_or-drop}
+use Rattle.std.specs.Prelude.{◌≡◌, ◌∷◌, ◌++◌, ◌+◌, ◌-◌, ◌*◌, ◌/◌, ◌%◌, ◌≤◌, ◌<◌}
+use Rattle.fips197.proofs.Kit.{refl, sym, ap, ap₂, ◌∙◌, List, [], map, ℕ, zero, suc, add-zero, arith, length, get_or, take, drop, length-map, length-take, length-drop, take-add, drop-drop, get_or-take, get_or-drop}
 use Rattle.fips197.specs.Block.{Bytes, Block, tabulate}
 use Rattle.fips197.specs.Aes.{cell, state, sbox, inv_sbox, sub_bytes, inv_sub_bytes, shift_rows, inv_shift_rows, columnwise, mixed, inv_mixed, mix_columns, inv_mix_columns}
 use Rattle.fips197.proofs.Xor.{byte_at, map-bytes}

@@ -1,6 +1,7 @@
 -- A rule of a table, proved at all of its entries by one test that antt computes, one entry after the other.
 -- Assumes nothing.
-use Rattle.fips197.proofs.Kit.{◌≡◌, refl, ◌∙◌, subst, sym, Bool, true, false, List, [], ◌∷◌, ℕ, zero, suc, ◌+◌, ◌<◌, add-zero, zero-add, add-suc, suc-add, le_of_suc-le-suc, not-suc-le-zero, eq-or-lt_of_le, ⊎_elim, T, length, get_or}
+use Rattle.std.specs.Prelude.{◌≡◌, ◌∷◌, ◌+◌, ◌<◌}
+use Rattle.fips197.proofs.Kit.{refl, ◌∙◌, subst, sym, Bool, true, false, List, [], ℕ, zero, suc, add-zero, zero-add, add-suc, suc-add, le_of_suc-le-suc, not-suc-le-zero, eq-or-lt_of_le, ⊎_elim, T, length, get_or}
 use Rattle.fips197.specs.Block.{tabulate}
 
 abbrev pub both : Bool → Bool → Bool

@@ -1,6 +1,7 @@
 -- FIPS 197's tables as their rules give them. The code's tables are compared with these, entry by entry, by computation; no table is
 -- written down here. What the rules give is computed at every byte (Table's `below`).
-use Rattle.fips197.proofs.Kit.{◌≡◌, refl, sym, ap, ◌∙◌, subst, Bool, true, false, List, ◌∷◌, ℕ, zero, suc, ◌+◌, ◌-◌, ◌%◌, ◌≤◌, ◌<◌, not-suc-le-zero, le_of_suc-le-suc, arith, lt_of_le-ne, T, eqb, eqb→eq, ltb, ltb→lt, get_or, bit_xor, eqb-true, eqb-false}
+use Rattle.std.specs.Prelude.{◌≡◌, ◌∷◌, ◌+◌, ◌-◌, ◌%◌, ◌≤◌, ◌<◌}
+use Rattle.fips197.proofs.Kit.{refl, sym, ap, ◌∙◌, subst, Bool, true, false, List, ℕ, zero, suc, not-suc-le-zero, le_of_suc-le-suc, arith, lt_of_le-ne, T, eqb, eqb→eq, ltb, ltb→lt, get_or, bit_xor, eqb-true, eqb-false}
 use Rattle.fips197.specs.Block.{Tabulates, tabulate}
 use Rattle.fips197.specs.Field.{xtimes, product_by, ◌•◌, power_by, power, inverse}
 use Rattle.fips197.specs.Aes.{bit, byte_of, affine, sbox, preimage, inv_sbox}

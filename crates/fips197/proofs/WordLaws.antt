@@ -1,5 +1,6 @@
 -- Words of four bytes: XOR, doubling in the field, turning and mixing go byte by byte; four words are a state.
-use Rattle.fips197.proofs.Kit.{◌≡◌, sym, ap, ap₂, ◌∙◌, subst, List, [], ◌∷◌, ◌++◌, map, div-div-eq-div-mul, div-lt_iff_lt-mul, mod-add-div', mod-eq_of_lt, pow_pos, ℕ, ◌+◌, ◌*◌, ◌/◌, ◌%◌, ◌^◌, ◌≤◌, ◌<◌, arith, length, get_or, bit_xor, bit_and, xor_shr, xor_mod, and_shr, and_mod, and_mask, and_high, and_le_r, lit<}
+use Rattle.std.specs.Prelude.{◌≡◌, ◌∷◌, ◌++◌, ◌+◌, ◌*◌, ◌/◌, ◌%◌, ◌^◌, ◌≤◌, ◌<◌}
+use Rattle.fips197.proofs.Kit.{sym, ap, ap₂, ◌∙◌, subst, List, [], map, div-div-eq-div-mul, div-lt_iff_lt-mul, mod-add-div', mod-eq_of_lt, pow_pos, ℕ, arith, length, get_or, bit_xor, bit_and, xor_shr, xor_mod, and_shr, and_mod, and_mask, and_high, and_le_r, lit<}
 use Rattle.fips197.specs.Block.{◌⊕◌}
 use Rattle.fips197.specs.Field.{xtimes}
 use Rattle.fips197.specs.Aes.{rot_word, mixed, inv_mixed, shift_rows, inv_shift_rows, columnwise, word, round_key}

@@ -1,5 +1,6 @@
 -- The laws of XOR, on numbers and on lists, that the kit lacks: associative, commutative, its own inverse; lengths and byte ranges.
-use Rattle.fips197.proofs.Kit.{◌≡◌, refl, sym, ap, ap₂, ◌∙◌, List, [], ◌∷◌, ◌++◌, map, ℕ, zero, suc, ◌+◌, ◌*◌, ◌/◌, ◌%◌, ◌≤◌, ◌<◌, mod-lt, zero-lt-suc, not-suc-le-zero, le_of_suc-le-suc, arith, bin_ind, digits_mod, length, get_or, take, drop, bit_xor, differ, xor_step, xor_shr, xor_comm, xor_self, xor_zero_r, xor_lt}
+use Rattle.std.specs.Prelude.{◌≡◌, ◌∷◌, ◌++◌, ◌+◌, ◌*◌, ◌/◌, ◌%◌, ◌≤◌, ◌<◌}
+use Rattle.fips197.proofs.Kit.{refl, sym, ap, ap₂, ◌∙◌, List, [], map, ℕ, zero, suc, mod-lt, zero-lt-suc, not-suc-le-zero, le_of_suc-le-suc, arith, bin_ind, digits_mod, length, get_or, take, drop, bit_xor, differ, xor_step, xor_shr, xor_comm, xor_self, xor_zero_r, xor_lt}
 use Rattle.fips197.specs.Block.{Bytes, Block, ◌⊕◌, zeros}
 
 -- ---- on numbers

@@ -1,7 +1,7 @@
 -- FIPS 197, section 5: AES-128, both ways. Document 01: the cipher. The names are the standard's. Assumes nothing.
-use Rattle.std.specs.Prelude.{List, [], ◌∷◌, ◌++◌, map, ℕ, zero, suc, ◌+◌, ◌-◌, ◌*◌, ◌/◌, ◌%◌, ◌^◌, eqb, get_or, take, drop}
+use Rattle.std.specs.Prelude.{List, [], ◌∷◌, ◌++◌, map, ℕ, zero, suc, ◌+◌, ◌-◌, ◌*◌, ◌/◌, ◌%◌, ◌^◌, eqb, get_or, take, drop, if◌then◌else◌}
 use Rattle.std.specs.Int.Bits.{bit_xor}
-use Rattle.fips197.specs.Block.{if◌then◌else◌, ◌⊕◌, tabulate}
+use Rattle.fips197.specs.Block.{◌⊕◌, tabulate}
 use Rattle.fips197.specs.Field.{◌•◌, power, inverse}
 
 -- 3.4: the byte of a state in row r and column c; a state is its 16 bytes, column by column

@@ -3,13 +3,7 @@
 use Rattle.std.specs.Prelude.{◌≡◌, Bool, true, false, ◌&&◌, List, [], ◌∷◌, ◌++◌, ℕ, zero, suc, ◌*◌, ◌<◌, eqb, length, get_or, take, drop, replicate}
 use Rattle.std.specs.Int.Bits.{bit_xor}
 
-infix 1 if◌then◌else◌
 infixl 66 ◌⊕◌
--- the first where the test holds, else the second
-abbrev pub if◌then◌else◌ : {A : Type 0} → Bool → A → A → A
-if◌then◌else◌ true a b = a
-if◌then◌else◌ false a b = b
-
 -- every element is a byte
 abbrev pub Bytes : List ℕ → Type 0
 Bytes [] = Unit {0}

@@ -1,8 +1,7 @@
 -- FIPS 197, section 4: bytes as elements of GF(2^8), polynomials over two elements modulo x^8 + x^4 + x^3 + x + 1.
 -- Bit i of a byte is the coefficient of x^i. Addition (4.1) is bit_xor. Assumes nothing.
-use Rattle.std.specs.Prelude.{ℕ, zero, suc, ◌*◌, ◌/◌, ◌%◌, eqb}
+use Rattle.std.specs.Prelude.{ℕ, zero, suc, ◌*◌, ◌/◌, ◌%◌, eqb, if◌then◌else◌}
 use Rattle.std.specs.Int.Bits.{bit_xor}
-use Rattle.fips197.specs.Block.{if◌then◌else◌}
 
 infixl 70 ◌•◌
 -- 4.2, XTIMES: a byte times x; 1b hexadecimal is the modulus without x^8

@@ -1,5 +1,6 @@
 -- What was packed is read back, and what each function packs.
-use Rattle.fips197.proofs.Kit.{◌≡◌, refl, sym, ap, ◌∙◌, subst, Bool, true, false, not, List, ℕ, ◌+◌, ◌*◌, ◌/◌, ◌%◌, ◌≤◌, ◌<◌, arith, eqb, length, eqb-true, eqb-false}
+use Rattle.std.specs.Prelude.{◌≡◌, ◌+◌, ◌*◌, ◌/◌, ◌%◌, ◌≤◌, ◌<◌}
+use Rattle.fips197.proofs.Kit.{refl, sym, ap, ◌∙◌, subst, Bool, true, false, not, List, ℕ, arith, eqb, length, eqb-true, eqb-false}
 use Rattle.incidence.specs.Count.{indicator}
 use Rattle.incidence.specs.Report.{named, number_named, disagreeing, meaning}
 use Rattle.incidence.specs.declared.Answer.{Answer}

@@ -1,6 +1,7 @@
 -- Every refusal's number is below 256 and its place at most 65,536, so that both are read back whole from the number that C gets.
-use Rattle.fips197.proofs.Kit.{Bool, true, false, ◌&&◌, List, [], ◌∷◌, ℕ, zero, suc, ◌+◌, ◌≤◌, ◌<◌, arith, eqb, leb, length, take, drop, length-take}
-use Rattle.blocks.specs.Block.{if◌then◌else◌, Bytes, same}
+use Rattle.std.specs.Prelude.{◌&&◌, ◌∷◌, ◌+◌, ◌≤◌, ◌<◌, if◌then◌else◌}
+use Rattle.fips197.proofs.Kit.{Bool, true, false, List, [], ℕ, zero, suc, arith, eqb, leb, length, take, drop, length-take}
+use Rattle.blocks.specs.Block.{Bytes, same}
 use Rattle.cipher.specs.Cmac.{cmac}
 use Rattle.blocks.specs.Number.{number_of, number}
 use Rattle.blocks.proofs.Xor.{take-bytes, drop-bytes}

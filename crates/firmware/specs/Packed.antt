@@ -1,8 +1,7 @@
 -- One 64-bit number for what a call says, so that a refused call touches no memory at all. Bits 0 to 7: the refusal's number, 0 where the
 -- call did its work. Refused: bits 8 to 31 are the place. Done: Verify has bit 8 set for yes; Report has the answer in bits 8 to 15
 -- (intact 0, named 1, beyond 2), the number named in bits 16 to 31 and the disagreeing rows in bits 32 to 47. Assumes nothing.
-use Rattle.std.specs.Prelude.{◌≡◌, Bool, List, ℕ, ◌+◌, ◌*◌, ◌/◌, ◌%◌, length}
-use Rattle.blocks.specs.Block.{if◌then◌else◌}
+use Rattle.std.specs.Prelude.{◌≡◌, Bool, List, ℕ, ◌+◌, ◌*◌, ◌/◌, ◌%◌, length, if◌then◌else◌}
 use Rattle.incidence.specs.Count.{indicator}
 use Rattle.incidence.specs.Report.{meaning}
 use Rattle.incidence.specs.declared.Answer.{Answer}

@@ -1,5 +1,6 @@
 -- A buffer of a few bytes has room for what stands before the cards or the tags, whichever version its bytes say.
-use Rattle.fips197.proofs.Kit.{List, ℕ, ◌≤◌, arith, length}
+use Rattle.std.specs.Prelude.{◌≤◌}
+use Rattle.fips197.proofs.Kit.{List, ℕ, arith, length}
 use Rattle.stamp.specs.Front.{front_size, version_of}
 use Rattle.stamp.proofs.Fronts.{front-most}
 use Rattle.files.specs.Message.{items_at}

@@ -1,5 +1,6 @@
 -- Facts about tests that are passed or failed.
-use Rattle.fips197.proofs.Kit.{◌≡◌, refl, sym, ◌∙◌, Bool, true, false, ◌&&◌, ◌||◌, Bool·beq, true≢false, ◌⊎◌, inl, inr}
+use Rattle.std.specs.Prelude.{◌≡◌, ◌&&◌, ◌||◌, ◌⊎◌}
+use Rattle.fips197.proofs.Kit.{refl, sym, ◌∙◌, Bool, true, false, Bool·beq, true≢false, inl, inr}
 
 pub and_left : (a b : Bool) → a && b ≡ true → a ≡ true
 and_left true b h = refl

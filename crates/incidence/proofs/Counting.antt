@@ -1,5 +1,6 @@
 -- The laws of `count`, `any` and `all`.
-use Rattle.fips197.proofs.Kit.{◌≡◌, refl, sym, ap, ap₂, ◌∙◌, subst, Bool, true, false, not, ◌&&◌, ◌||◌, true≢false, ◌⊎◌, inl, inr, ℕ, zero, suc, ◌+◌, ◌-◌, ◌≤◌, ◌<◌, arith, ltb, leb, ltb-true, ltb-false, leb-true, le-leb}
+use Rattle.std.specs.Prelude.{◌≡◌, ◌&&◌, ◌||◌, ◌⊎◌, ◌+◌, ◌-◌, ◌≤◌, ◌<◌}
+use Rattle.fips197.proofs.Kit.{refl, sym, ap, ap₂, ◌∙◌, subst, Bool, true, false, not, true≢false, inl, inr, ℕ, zero, suc, arith, ltb, leb, ltb-true, ltb-false, leb-true, le-leb}
 use Rattle.incidence.specs.Count.{indicator, count_up_to, any_up_to, all_up_to, inside}
 use Rattle.incidence.specs.Drift.{ApartAtMost}
 use Rattle.incidence.proofs.Booleans.{and_left, and_right, and_both, or_cases, or-first, or_second, not_passed}

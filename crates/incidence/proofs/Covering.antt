@@ -1,7 +1,8 @@
 -- The naming theorem (document 02, 2.13), for any family and any test of its rows by which a row without a changed item agrees and, where no
 -- row cancels, every other disagrees: the items named are those that the changed ones cover. And what covers what: each item of a set is
 -- covered by it, and no other is where the family is disjunct enough (000, section 2.1).
-use Rattle.fips197.proofs.Kit.{◌≡◌, refl, ap, subst, Bool, true, false, not, ◌&&◌, ◌||◌, ◌⊎◌, inl, inr, ℕ, zero, suc, ◌≤◌, ◌<◌, arith, leb, le-leb, lt-leb}
+use Rattle.std.specs.Prelude.{◌≡◌, ◌&&◌, ◌||◌, ◌⊎◌, ◌≤◌, ◌<◌}
+use Rattle.fips197.proofs.Kit.{refl, ap, subst, Bool, true, false, not, inl, inr, ℕ, zero, suc, arith, leb, le-leb, lt-leb}
 use Rattle.incidence.specs.Count.{count_up_to}
 use Rattle.incidence.specs.Family.{Family, holds_one, rows_holding, covered, Separates, Disjunct}
 use Rattle.incidence.specs.Report.{cleared, named}

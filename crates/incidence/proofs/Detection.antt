@@ -1,6 +1,7 @@
 -- The detection theorem (demand 3; 000, Proposition 1), for any lawful family and any test of its rows that is tied to the changes. It
 -- mentions no size, no difference list and no cipher. The items named are those that the changed ones cover (Covering).
-use Rattle.fips197.proofs.Kit.{◌≡◌, refl, sym, ap, ◌∙◌, Bool, true, false, not, ◌&&◌, ◌↔◌, ℕ, ◌≤◌, ◌<◌, arith, not-true}
+use Rattle.std.specs.Prelude.{◌≡◌, ◌&&◌, ◌↔◌, ◌≤◌, ◌<◌}
+use Rattle.fips197.proofs.Kit.{refl, sym, ap, ◌∙◌, Bool, true, false, not, ℕ, arith, not-true}
 use Rattle.incidence.specs.Count.{count_up_to}
 use Rattle.incidence.specs.Family.{Family, holds_one, covered, Lawful}
 use Rattle.incidence.specs.Report.{named, number_named, disagreeing, some_unexplained, answer}

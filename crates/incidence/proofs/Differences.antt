@@ -1,7 +1,8 @@
 -- Reports by differences: rows had back from XORed sums of tags are the XORs of the rows had back from each, so that a row agrees exactly
 -- where the difference had from those of the tags is zero; and where every row agrees, the report says intact.
-use Rattle.fips197.proofs.Kit.{◌≡◌, refl, sym, ap, ap₂, ◌∙◌, Bool, true, false, not, List, [], ◌∷◌, ℕ, zero, suc, ◌≤◌, arith, eqb, length, eqb-true, eqb-false}
-use Rattle.blocks.specs.Block.{if◌then◌else◌, ◌⊕◌, zeros, same}
+use Rattle.std.specs.Prelude.{◌≡◌, ◌∷◌, ◌≤◌, if◌then◌else◌}
+use Rattle.fips197.proofs.Kit.{refl, sym, ap, ap₂, ◌∙◌, Bool, true, false, not, List, [], ℕ, zero, suc, arith, eqb, length, eqb-true, eqb-false}
+use Rattle.blocks.specs.Block.{◌⊕◌, zeros, same}
 use Rattle.blocks.proofs.Xor.{⊕_comm, ⊕_assoc, ⊕-zeros, same-xor}
 use Rattle.incidence.specs.Count.{count_up_to}
 use Rattle.incidence.specs.Family.{Family, Lawful}

@@ -1,7 +1,8 @@
 -- The drift theorem (document 02, 2.14), over any family: a row that holds no item that differs between two messages has the same sum in both,
 -- so that its test comes out alike, and two counts whose tests come out alike but on k rows are at most k apart. These are the rows that hold
 -- an item that differs, at most those through it where it is the only one.
-use Rattle.fips197.proofs.Kit.{◌≡◌, refl, ap, subst, Bool, true, false, not, ◌&&◌, List, ℕ, ◌≤◌, arith, eqb, eqb-true, eqb-false}
+use Rattle.std.specs.Prelude.{◌≡◌, ◌&&◌, ◌≤◌}
+use Rattle.fips197.proofs.Kit.{refl, ap, subst, Bool, true, false, not, List, ℕ, arith, eqb, eqb-true, eqb-false}
 use Rattle.incidence.specs.Family.{Family, holds_one, rows_through, rows_holding, Projective}
 use Rattle.incidence.specs.Sum.{row_sum}
 use Rattle.incidence.specs.Report.{disagreeing}

@@ -1,6 +1,6 @@
 -- The laws of `listed`: its length is the count, its members are those that pass, and they rise. And what is left of a list in a buffer.
-use Rattle.fips197.proofs.Kit.{◌≡◌, refl, sym, ap, ap₂, ◌∙◌, subst, Bool, true, false, List, [], ◌∷◌, ◌++◌, ◌⊎◌, inl, inr, ℕ, zero, suc, ◌+◌, ◌-◌, ◌≤◌, ◌<◌, arith, length, get_or, drop, length-append, List·getD-append, get_or_at}
-use Rattle.blocks.specs.Block.{if◌then◌else◌}
+use Rattle.std.specs.Prelude.{◌≡◌, ◌∷◌, ◌++◌, ◌⊎◌, ◌+◌, ◌-◌, ◌≤◌, ◌<◌, if◌then◌else◌}
+use Rattle.fips197.proofs.Kit.{refl, sym, ap, ap₂, ◌∙◌, subst, Bool, true, false, List, [], inl, inr, ℕ, zero, suc, arith, length, get_or, drop, length-append, List·getD-append, get_or_at}
 use Rattle.incidence.specs.Count.{indicator, count_up_to, listed}
 use Rattle.incidence.specs.Family.{Family, rows_of, items_of, tags_of}
 use Rattle.incidence.proofs.Counting.{last_or, count_before}

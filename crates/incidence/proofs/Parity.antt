@@ -1,8 +1,8 @@
 -- Sums of bits, and the laws of `parity`: of no members, of a sum, of two lists one behind the other, and of a parity of parities, which may be
 -- taken in either order; and of the numbers that a test lists.
-use Rattle.fips197.proofs.Kit.{◌≡◌, refl, sym, ap, ap₂, ◌∙◌, Bool, true, false, ◌&&◌, List, [], ◌∷◌, ◌++◌, map, ℕ, zero, suc}
+use Rattle.std.specs.Prelude.{◌≡◌, ◌&&◌, ◌∷◌, ◌++◌, if◌then◌else◌}
+use Rattle.fips197.proofs.Kit.{refl, sym, ap, ap₂, ◌∙◌, Bool, true, false, List, [], map, ℕ, zero, suc}
 use mathlib.Core.Bool.{xor}
-use Rattle.blocks.specs.Block.{if◌then◌else◌}
 use Rattle.incidence.specs.Count.{listed}
 use Rattle.incidence.specs.Family.{parity}
 

@@ -1,6 +1,7 @@
 -- 000, the proof of Proposition 2: where each item is on more than d rows and two different ones share at most one, the matrix is d-disjunct.
 -- For the items of a set take at most as many rows from another item as there are of them.
-use Rattle.fips197.proofs.Kit.{◌≡◌, refl, ap, Bool, true, false, not, ◌&&◌, ◌||◌, ℕ, zero, suc, ◌≤◌, ◌<◌, arith, not-true}
+use Rattle.std.specs.Prelude.{◌≡◌, ◌&&◌, ◌||◌, ◌≤◌, ◌<◌}
+use Rattle.fips197.proofs.Kit.{refl, ap, Bool, true, false, not, ℕ, zero, suc, arith, not-true}
 use Rattle.incidence.specs.Count.{indicator, count_up_to}
 use Rattle.incidence.specs.Family.{Family, holds_one, Disjunct}
 use Rattle.incidence.proofs.Booleans.{and_left, and_right, and_both, and-or, not_both, not_passed}

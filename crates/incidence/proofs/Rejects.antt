@@ -2,7 +2,8 @@
 -- names none, and one that always says "beyond". What request 2.2, as `Tallies` states it, tells the other way round, what request 2.13, as
 -- `NamesCovered` states it, rules out, and what a jump tells by request 2.14, as `Drifts` states it. And how the four statements pass to what
 -- is equal to them or asks for more.
-use Rattle.fips197.proofs.Kit.{◌≡◌, refl, sym, ◌∙◌, Bool, true, false, ℕ, ◌+◌, ◌-◌, ◌*◌, ◌/◌, ◌≤◌, ◌<◌, arith}
+use Rattle.std.specs.Prelude.{◌≡◌, ◌+◌, ◌-◌, ◌*◌, ◌/◌, ◌≤◌, ◌<◌}
+use Rattle.fips197.proofs.Kit.{refl, sym, ◌∙◌, Bool, true, false, ℕ, arith}
 use native.Mathlib.Nat.{lt_of_not-le}
 use Rattle.incidence.specs.Count.{count_up_to}
 use Rattle.incidence.specs.Family.{Family, holds_one}

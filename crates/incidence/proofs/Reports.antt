@@ -1,6 +1,6 @@
 -- The three answers of a report, each with its case.
-use Rattle.fips197.proofs.Kit.{◌≡◌, refl, sym, ap, ◌∙◌, Bool, true, false, not, ◌&&◌, true≢false, ◌↔◌, ℕ, ◌≤◌, ◌<◌, arith, eqb, leb, eqb-true, eqb-false, leb-true, leb-false, eq-eqb, ne_eqb, le-leb}
-use Rattle.blocks.specs.Block.{if◌then◌else◌}
+use Rattle.std.specs.Prelude.{◌≡◌, ◌&&◌, ◌↔◌, ◌≤◌, ◌<◌, if◌then◌else◌}
+use Rattle.fips197.proofs.Kit.{refl, sym, ap, ◌∙◌, Bool, true, false, not, true≢false, ℕ, arith, eqb, leb, eqb-true, eqb-false, leb-true, leb-false, eq-eqb, ne_eqb, le-leb}
 use Rattle.incidence.specs.Report.{meaning, answer_by}
 use Rattle.incidence.specs.declared.Answer.{Answer}
 use Rattle.incidence.specs.declared.Answer.TheVariants.{Intact, Named, Beyond}

@@ -1,5 +1,6 @@
 -- A report goes by the tests of the family's rows alone: tests that are equal there give the same report.
-use Rattle.fips197.proofs.Kit.{◌≡◌, ap, ap₂, Bool, not, ◌&&◌, ℕ, ◌≤◌}
+use Rattle.std.specs.Prelude.{◌≡◌, ◌&&◌, ◌≤◌}
+use Rattle.fips197.proofs.Kit.{ap, ap₂, Bool, not, ℕ}
 use Rattle.incidence.specs.Family.{Family}
 use Rattle.incidence.specs.Report.{cleared, named, number_named, disagreeing, some_unexplained, answer}
 use Rattle.incidence.proofs.Counting.{count_ext, any_ext}

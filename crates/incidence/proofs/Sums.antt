@@ -1,8 +1,9 @@
 -- The laws of row sums: values of zeros add nothing, made rows add up, a row without a changed place keeps its sum, a change of one place adds
 -- both values, and a message's row sums are had back from those of its tagged rows.
-use Rattle.fips197.proofs.Kit.{◌≡◌, refl, sym, ap, ap₂, ◌∙◌, subst, Bool, true, false, ◌&&◌, List, [], ◌∷◌, ◌⊎◌, inl, inr, ℕ, zero, suc, ◌≤◌, ◌<◌, arith, eqb, length, get_or, eqb-true, eqb-false, eq-eqb, ne_eqb}
+use Rattle.std.specs.Prelude.{◌≡◌, ◌&&◌, ◌∷◌, ◌⊎◌, ◌≤◌, ◌<◌, if◌then◌else◌}
+use Rattle.fips197.proofs.Kit.{refl, sym, ap, ap₂, ◌∙◌, subst, Bool, true, false, List, [], inl, inr, ℕ, zero, suc, arith, eqb, length, get_or, eqb-true, eqb-false, eq-eqb, ne_eqb}
 use mathlib.Core.Bool.{xor}
-use Rattle.blocks.specs.Block.{if◌then◌else◌, ◌⊕◌, zeros}
+use Rattle.blocks.specs.Block.{◌⊕◌, zeros}
 use Rattle.blocks.proofs.Xor.{⊕_comm, ⊕_assoc, ⊕-length, ⊕_self, ⊕-zeros, ⊕_cancel}
 use Rattle.incidence.specs.Family.{Family, Lawful, Earlier, parity}
 use Rattle.incidence.specs.Sum.{sum_over, row_sum, sum_of, expanded_in, expanded}

@@ -1,7 +1,8 @@
 -- The counting theorem (document 02, 2.2), for any projective family and any test of its rows by which a row without a changed item agrees
 -- and, where no row cancels, every other disagrees. Item by item: a changed one adds its d + 1 rows but for those that hold an earlier changed
 -- one, which are at most as many as these, and at least one where there is one.
-use Rattle.fips197.proofs.Kit.{◌≡◌, refl, sym, ap, ◌∙◌, subst, Bool, true, false, not, ◌&&◌, ◌||◌, and_comm, and-true, ◌⊎◌, inl, inr, ℕ, zero, suc, ◌+◌, ◌-◌, ◌*◌, ◌/◌, ◌≤◌, ◌<◌, mul_comm, arith, not-true}
+use Rattle.std.specs.Prelude.{◌≡◌, ◌&&◌, ◌||◌, ◌⊎◌, ◌+◌, ◌-◌, ◌*◌, ◌/◌, ◌≤◌, ◌<◌}
+use Rattle.fips197.proofs.Kit.{refl, sym, ap, ◌∙◌, subst, Bool, true, false, not, and_comm, and-true, inl, inr, ℕ, zero, suc, mul_comm, arith, not-true}
 use native.Mathlib.Nat.{suc-mul, eq-zero-or-pos}
 use Rattle.incidence.specs.Count.{indicator, count_up_to}
 use Rattle.incidence.specs.Family.{Family, holds_one, rows_holding, Projective}

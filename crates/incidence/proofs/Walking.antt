@@ -1,6 +1,7 @@
 -- A walk through the rows of any family, by any test of them (document 02, 2.4): a longer one clears no fewer items and counts no fewer rows,
 -- and one row more clears the items of that row if it agrees, and counts it if not.
-use Rattle.fips197.proofs.Kit.{◌≡◌, refl, Bool, true, not, ◌&&◌, ◌||◌, ℕ, suc, ◌+◌, ◌≤◌, arith}
+use Rattle.std.specs.Prelude.{◌≡◌, ◌&&◌, ◌||◌, ◌+◌, ◌≤◌}
+use Rattle.fips197.proofs.Kit.{refl, Bool, true, not, ℕ, suc, arith}
 use Rattle.incidence.specs.Count.{indicator, count_up_to}
 use Rattle.incidence.specs.Family.{Family}
 use Rattle.incidence.specs.Report.{cleared, disagreeing}

@@ -1,7 +1,6 @@
 -- The numbers 1 to n that pass a test: how many, whether any, whether each, and which. Rows, items and tags are numbered so (document 01,
 -- Planes). Each goes up by one number at a time, so that what holds of the first n needs no definition of its own. Assumes nothing.
-use Rattle.std.specs.Prelude.{Bool, true, false, ◌&&◌, ◌||◌, List, [], ◌∷◌, ◌++◌, ℕ, zero, suc, ◌+◌, leb}
-use Rattle.blocks.specs.Block.{if◌then◌else◌}
+use Rattle.std.specs.Prelude.{Bool, true, false, ◌&&◌, ◌||◌, List, [], ◌∷◌, ◌++◌, ℕ, zero, suc, ◌+◌, leb, if◌then◌else◌}
 
 -- 1 for a test that is passed
 abbrev pub indicator : Bool → ℕ

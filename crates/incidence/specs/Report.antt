@@ -1,8 +1,7 @@
 -- Document 01, Report, over any family and any test `agrees` of its rows (000, section 3.1: naïve decoding). n is the number of items of
 -- the message. Assumes nothing.
-use Rattle.std.specs.Prelude.{Bool, not, ◌&&◌, ℕ, eqb, leb}
+use Rattle.std.specs.Prelude.{Bool, not, ◌&&◌, ℕ, eqb, leb, if◌then◌else◌}
 use Prim.Native.String.{String}
-use Rattle.blocks.specs.Block.{if◌then◌else◌}
 use Rattle.incidence.specs.Count.{count_up_to, any_up_to}
 use Rattle.incidence.specs.Family.{Family, holds_one}
 use Rattle.incidence.specs.declared.Answer.{Answer}

@@ -1,7 +1,7 @@
 -- Sums over rows (000, section 4.3): S[i] is the XOR of the items' values on row i, and (4) a row without a tag is expanded from the tagged ones.
 -- A value is 16 bytes; places above n add nothing (document 01, Planes). Assumes nothing.
-use Rattle.std.specs.Prelude.{Bool, List, [], ◌∷◌, ℕ, zero, suc, eqb}
-use Rattle.blocks.specs.Block.{if◌then◌else◌, ◌⊕◌, zeros}
+use Rattle.std.specs.Prelude.{Bool, List, [], ◌∷◌, ℕ, zero, suc, eqb, if◌then◌else◌}
+use Rattle.blocks.specs.Block.{◌⊕◌, zeros}
 use Rattle.incidence.specs.Family.{Family}
 
 -- the XOR of the values at those of the places 1 to n that p picks

@@ -1,7 +1,8 @@
 -- What the hash of a vacant place is, and of any other; hashes, masks and tags are blocks; a tag gives its sum back, and a sum its tag; what
 -- a key made ready or expanded gives is what the key gives; and the walks over many blocks.
-use Rattle.fips197.proofs.Kit.{◌≡◌, refl, sym, ap, ◌∙◌, Bool, true, false, ◌&&◌, and-false, List, [], ◌++◌, ℕ, zero, suc, ◌+◌, ◌*◌, ◌%◌, ◌≤◌, ◌<◌, arith, eqb, leb, length, take, drop, length-append, length-take, length-drop, ne_eqb, le-leb, lt-leb}
-use Rattle.blocks.specs.Block.{if◌then◌else◌, Bytes, Block, ◌⊕◌, zeros, slot, list_of}
+use Rattle.std.specs.Prelude.{◌≡◌, ◌&&◌, ◌++◌, ◌+◌, ◌*◌, ◌%◌, ◌≤◌, ◌<◌, if◌then◌else◌}
+use Rattle.fips197.proofs.Kit.{refl, sym, ap, ◌∙◌, Bool, true, false, and-false, List, [], ℕ, zero, suc, arith, eqb, leb, length, take, drop, length-append, length-take, length-drop, ne_eqb, le-leb, lt-leb}
+use Rattle.blocks.specs.Block.{Bytes, Block, ◌⊕◌, zeros, slot, list_of}
 use Rattle.blocks.specs.Number.{big_endian}
 use Rattle.cipher.specs.Aes.{key_expansion, cipher, inv_cipher, encipher, decipher}
 use Rattle.cipher.specs.Cmac.{cmac, mac_with, ready}

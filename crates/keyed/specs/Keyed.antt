@@ -1,8 +1,8 @@
 -- The keyed functions of the scheme (000, section 4.3: F and G; document 01, 'Keys and codes'), under a key. Those whose names end in By are
 -- over what a caller with many blocks hands over instead: the MAC `mac` of a key made ready, or the block cipher `ciph` under an expanded
 -- key, with `deciph` its inverse. Assumes nothing.
-use Rattle.std.specs.Prelude.{Bool, ◌&&◌, List, ◌++◌, ℕ, zero, suc, eqb, leb, length}
-use Rattle.blocks.specs.Block.{if◌then◌else◌, ◌⊕◌, zeros, slot, list_of}
+use Rattle.std.specs.Prelude.{Bool, ◌&&◌, List, ◌++◌, ℕ, zero, suc, eqb, leb, length, if◌then◌else◌}
+use Rattle.blocks.specs.Block.{◌⊕◌, zeros, slot, list_of}
 use Rattle.blocks.specs.Number.{big_endian}
 use Rattle.blocks.specs.Double.{double}
 use Rattle.cipher.specs.Aes.{encipher, decipher}

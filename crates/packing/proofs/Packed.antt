@@ -1,5 +1,6 @@
 -- The file of a list of items: it grows by one item with each append, it is not refused, and it holds the items in order.
-use Rattle.fips197.proofs.Kit.{◌≡◌, refl, sym, ap, ap₂, ◌∙◌, true, List, [], ◌∷◌, ◌++◌, append_assoc, append-nil, ℕ, zero, suc, ◌+◌, ◌-◌, ◌^◌, ◌≤◌, ◌<◌, add-one, arith, ltb, leb, leb-true, ltb-true, length, get_or, take, drop, length-append, take-append-drop, take_all, take-suc, split_at, take_at, drop_at, drop-drop, le-leb}
+use Rattle.std.specs.Prelude.{◌≡◌, ◌∷◌, ◌++◌, ◌+◌, ◌-◌, ◌^◌, ◌≤◌, ◌<◌}
+use Rattle.fips197.proofs.Kit.{refl, sym, ap, ap₂, ◌∙◌, true, List, [], append_assoc, append-nil, ℕ, zero, suc, add-one, arith, ltb, leb, leb-true, ltb-true, length, get_or, take, drop, length-append, take-append-drop, take_all, take-suc, split_at, take_at, drop_at, drop-drop, le-leb}
 use Rattle.blocks.specs.Number.{number, big_endian}
 use Rattle.blocks.proofs.Numbers.{big_endian-length, number-big_endian}
 use Rattle.incidence.specs.Count.{inside}

@@ -1,5 +1,6 @@
 -- What a begin that passes tells of stamp and room, and an append of file and item, and what each test of the code settles.
-use Rattle.fips197.proofs.Kit.{◌≡◌, refl, sym, ap, ap₂, ◌∙◌, Bool, true, false, ◌&&◌, and-true, List, [], ◌∷◌, ℕ, zero, suc, ◌+◌, ◌-◌, ◌^◌, ◌≤◌, ◌<◌, arith, eqb, leb, ltb, ne_eqb, le-ltb, lt-ltb, length, take, length-take, leb-true, leb-false, le-leb, lt-leb, ltb-true}
+use Rattle.std.specs.Prelude.{◌≡◌, ◌&&◌, ◌∷◌, ◌+◌, ◌-◌, ◌^◌, ◌≤◌, ◌<◌}
+use Rattle.fips197.proofs.Kit.{refl, sym, ap, ap₂, ◌∙◌, Bool, true, false, and-true, List, [], ℕ, zero, suc, arith, eqb, leb, ltb, ne_eqb, le-ltb, lt-ltb, length, take, length-take, leb-true, leb-false, le-leb, lt-leb, ltb-true}
 use Rattle.incidence.specs.Count.{inside}
 use Rattle.stamp.specs.declared.Stamp.{Stamp}
 use Rattle.stamp.specs.Front.{stamp_fits, version_of}

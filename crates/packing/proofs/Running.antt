@@ -1,6 +1,7 @@
 -- A run: `begin` and then appends, one after another, each behind the file so far. Where none is refused, the front of the buffer is the file
 -- of the items; and none is refused where the items fit one file and the buffer has room for it.
-use Rattle.fips197.proofs.Kit.{◌≡◌, refl, sym, ap, ap₂, ◌∙◌, subst, true, ◌⊎◌, inl, inr, List, [], ◌∷◌, ◌++◌, append_assoc, append-nil, ℕ, suc, ◌+◌, ◌≤◌, ◌<◌, le_of_suc-le-suc, eq-or-lt_of_le, arith, length, get_or, take, drop, length-append, length-drop, List·getD-append, take_at, drop_at, drop-drop, get_or-append_seam, le-leb, lt-ltb}
+use Rattle.std.specs.Prelude.{◌≡◌, ◌⊎◌, ◌∷◌, ◌++◌, ◌+◌, ◌≤◌, ◌<◌}
+use Rattle.fips197.proofs.Kit.{refl, sym, ap, ap₂, ◌∙◌, subst, true, inl, inr, List, [], append_assoc, append-nil, ℕ, suc, le_of_suc-le-suc, eq-or-lt_of_le, arith, length, get_or, take, drop, length-append, length-drop, List·getD-append, take_at, drop_at, drop-drop, get_or-append_seam, le-leb, lt-ltb}
 use Rattle.stamp.specs.declared.Stamp.{Stamp}
 use Rattle.stamp.specs.Front.{stamp_fits}
 use Rattle.stamp.proofs.Fronts.{front-most}

@@ -1,5 +1,6 @@
 -- Bytes put into a buffer: an item with its length behind a file whose count is raised, and the file without items.
-use Rattle.fips197.proofs.Kit.{◌≡◌, sym, ap, ap₂, ◌∙◌, List, [], ◌++◌, append_assoc, append-nil, ℕ, ◌+◌, ◌≤◌, arith, length, take, drop, length-append, length-drop, take-append-drop, take_at, drop_at, take-append-le, drop-append-le, drop-drop, length-take-le}
+use Rattle.std.specs.Prelude.{◌≡◌, ◌++◌, ◌+◌, ◌≤◌}
+use Rattle.fips197.proofs.Kit.{sym, ap, ap₂, ◌∙◌, List, [], append_assoc, append-nil, ℕ, arith, length, take, drop, length-append, length-drop, take-append-drop, take_at, drop_at, take-append-le, drop-append-le, drop-drop, length-take-le}
 use Rattle.blocks.specs.Number.{number, big_endian}
 use Rattle.blocks.proofs.Loop.{front_kept, put_behind}
 use Rattle.blocks.proofs.Numbers.{big_endian-length}

@@ -1,8 +1,7 @@
 -- Packing: a message file (document 01: shelf) of a version and a number built from items (cards), one after another. The file of a list of
 -- items, and the two calls that build it in a lent buffer, `begin` and `append`: what each refuses and what it leaves in the buffer, for all
 -- inputs. Assumes nothing.
-use Rattle.std.specs.Prelude.{List, [], ◌∷◌, ◌++◌, ℕ, ◌+◌, leb, ltb, length, take, drop}
-use Rattle.blocks.specs.Block.{if◌then◌else◌}
+use Rattle.std.specs.Prelude.{List, [], ◌∷◌, ◌++◌, ℕ, ◌+◌, leb, ltb, length, take, drop, if◌then◌else◌}
 use Rattle.blocks.specs.Number.{big_endian}
 use Rattle.stamp.specs.declared.Stamp.{Stamp}
 use Rattle.stamp.specs.Front.{front, front_size, stamp_fits, version_of}

@@ -1,6 +1,7 @@
 -- What the rules of a difference list and a row pattern give, by one argument for every list: 000, section 6.4, properties A and B and
 -- Proposition 2, and that the pattern yields every later row.
-use Rattle.fips197.proofs.Kit.{◌≡◌, refl, sym, ap, ap₂, ◌∙◌, Bool, true, false, ◌&&◌, Bool·beq, xor, List, [], ◌∷◌, map, ℕ, zero, suc, ◌+◌, ◌-◌, ◌≤◌, ◌<◌, ◌%◌, add-mod_right, mod-add-mod, mod-lt, mod-eq_of_lt, mod_self, arith, eqb, ltb, length, get_or, ltb-true, ltb-false, eqb-true, lt-ltb, le-leb}
+use Rattle.std.specs.Prelude.{◌≡◌, ◌&&◌, ◌∷◌, ◌+◌, ◌-◌, ◌≤◌, ◌<◌, ◌%◌}
+use Rattle.fips197.proofs.Kit.{refl, sym, ap, ap₂, ◌∙◌, Bool, true, false, Bool·beq, xor, List, [], map, ℕ, zero, suc, add-mod_right, mod-add-mod, mod-lt, mod-eq_of_lt, mod_self, arith, eqb, ltb, length, get_or, ltb-true, ltb-false, eqb-true, lt-ltb, le-leb}
 use Rattle.incidence.specs.Count.{count_up_to, inside}
 use Rattle.incidence.specs.Family.{Earlier, parity}
 use Rattle.incidence.proofs.Booleans.{and_left, and_right, beq_eq}

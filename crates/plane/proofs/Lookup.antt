@@ -1,5 +1,6 @@
 -- The code's tables are the definitions' lists. A table is tested at each of the five places of a column; past the end both are empty.
-use Rattle.fips197.proofs.Kit.{◌≡◌, refl, sym, ap, ◌∙◌, subst, Bool, true, false, ◌&&◌, List, [], ◌∷◌, ℕ, zero, suc, ◌+◌, ◌-◌, ◌≤◌, ◌<◌, arith, eqb, ltb, leb, length, get_or, take, drop, List·getD-eq-default, ltb-true, ltb-false, leb-true, eqb-true}
+use Rattle.std.specs.Prelude.{◌≡◌, ◌&&◌, ◌∷◌, ◌+◌, ◌-◌, ◌≤◌, ◌<◌}
+use Rattle.fips197.proofs.Kit.{refl, sym, ap, ◌∙◌, subst, Bool, true, false, List, [], ℕ, zero, suc, arith, eqb, ltb, leb, length, get_or, take, drop, List·getD-eq-default, ltb-true, ltb-false, leb-true, eqb-true}
 use Rattle.blocks.specs.Block.{same}
 use Rattle.blocks.proofs.Xor.{same_true}
 use Rattle.incidence.proofs.Booleans.{and_left, and_right}

@@ -1,6 +1,6 @@
 -- The four planes are lawful and projective families, with document 01's numbers: what the crates above use of them.
-use Rattle.fips197.proofs.Kit.{◌≡◌, refl, ap, ◌∙◌, Bool, true, false, ◌&&◌, ℕ, suc, ◌≤◌, ◌<◌, arith, leb, leb-true, leb-false, le-leb}
-use Rattle.blocks.specs.Block.{if◌then◌else◌}
+use Rattle.std.specs.Prelude.{◌≡◌, ◌&&◌, ◌≤◌, ◌<◌, if◌then◌else◌}
+use Rattle.fips197.proofs.Kit.{refl, ap, ◌∙◌, Bool, true, false, ℕ, suc, arith, leb, leb-true, leb-false, le-leb}
 use Rattle.incidence.specs.Count.{count_up_to}
 use Rattle.incidence.specs.Family.{Disjunct, Lawful, Projective}
 use Rattle.incidence.proofs.Pigeonhole.{pigeonhole}

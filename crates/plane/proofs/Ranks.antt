@@ -1,5 +1,6 @@
 -- Rising lists of numbers: how many members are at most x, and sums over a cycle of m numbers of a test that repeats.
-use Rattle.fips197.proofs.Kit.{◌≡◌, refl, sym, ap, ap₂, ◌∙◌, Bool, true, false, ◌&&◌, ◌||◌, List, [], ◌∷◌, ℕ, zero, suc, ◌+◌, ◌-◌, ◌≤◌, ◌<◌, add-suc, zero-add, add-one, arith, eqb, ltb, leb, length, get_or, drop, drop-cons, ltb-true, leb-true, leb-false, le-leb, lt-leb, eqb-true, eqb-false, eq-eqb, ne_eqb}
+use Rattle.std.specs.Prelude.{◌≡◌, ◌&&◌, ◌||◌, ◌∷◌, ◌+◌, ◌-◌, ◌≤◌, ◌<◌}
+use Rattle.fips197.proofs.Kit.{refl, sym, ap, ap₂, ◌∙◌, Bool, true, false, List, [], ℕ, zero, suc, add-suc, zero-add, add-one, arith, eqb, ltb, leb, length, get_or, drop, drop-cons, ltb-true, leb-true, leb-false, le-leb, lt-leb, eqb-true, eqb-false, eq-eqb, ne_eqb}
 use Rattle.incidence.specs.Count.{indicator, count_up_to}
 use Rattle.incidence.proofs.Booleans.{and_left, and_right, or-first, or_second}
 use Rattle.incidence.proofs.Counting.{count_ext}

@@ -1,5 +1,6 @@
 -- The constants keep the rules: one computed test for each rule, over the four planes at once.
-use Rattle.fips197.proofs.Kit.{◌≡◌, refl, Bool, true, ℕ, zero, suc, ◌-◌, ◌≤◌, ◌<◌, arith, eqb, ltb, leb, length, ltb-true, leb-true, eqb-true}
+use Rattle.std.specs.Prelude.{◌≡◌, ◌-◌, ◌≤◌, ◌<◌}
+use Rattle.fips197.proofs.Kit.{refl, Bool, true, ℕ, zero, suc, arith, eqb, ltb, leb, length, ltb-true, leb-true, eqb-true}
 use mathlib.Core.Bool.{xor}
 use Rattle.incidence.specs.Family.{parity}
 use Rattle.incidence.proofs.Counting.{every, every_at}

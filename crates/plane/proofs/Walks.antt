@@ -1,6 +1,6 @@
 -- Where the rows of an item and the items of a row stand, in rising order, by ranks in the difference list; the first rows are the tags.
-use Rattle.fips197.proofs.Kit.{◌≡◌, refl, sym, ap, ◌∙◌, subst, Bool, true, false, ◌&&◌, List, [], ◌++◌, map, ℕ, suc, ◌+◌, ◌-◌, ◌≤◌, ◌<◌, ◌%◌, add-mod_right, mod-eq_of_lt, arith, ltb, leb, length, get_or, take, drop, length-append, length-drop, length-take-le, get_or-append-add, List·getD-append, get_or-take, get_or-drop, ext_get_or, ltb-true, ltb-false, length-map, lt-ltb, le-ltb, le-leb, lt-leb}
-use Rattle.blocks.specs.Block.{if◌then◌else◌}
+use Rattle.std.specs.Prelude.{◌≡◌, ◌&&◌, ◌++◌, ◌+◌, ◌-◌, ◌≤◌, ◌<◌, ◌%◌, if◌then◌else◌}
+use Rattle.fips197.proofs.Kit.{refl, sym, ap, ◌∙◌, subst, Bool, true, false, List, [], map, ℕ, suc, add-mod_right, mod-eq_of_lt, arith, ltb, leb, length, get_or, take, drop, length-append, length-drop, length-take-le, get_or-append-add, List·getD-append, get_or-take, get_or-drop, ext_get_or, ltb-true, ltb-false, length-map, lt-ltb, le-ltb, le-leb, lt-leb}
 use Rattle.blocks.proofs.Loop.{map_at}
 use Rattle.incidence.specs.Count.{indicator, count_up_to, listed, inside}
 use Rattle.incidence.specs.Family.{rows_of, items_of, tags_of}

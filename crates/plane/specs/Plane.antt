@@ -1,6 +1,5 @@
 -- Document 01, Planes (000, section 6.4): the incidence of a plane by its difference list, and the plane as a family. Assumes nothing.
-use Rattle.std.specs.Prelude.{Bool, false, ◌&&◌, ◌||◌, List, [], ◌∷◌, map, ℕ, ◌+◌, ◌-◌, ◌%◌, eqb, ltb, leb}
-use Rattle.blocks.specs.Block.{if◌then◌else◌}
+use Rattle.std.specs.Prelude.{Bool, false, ◌&&◌, ◌||◌, List, [], ◌∷◌, map, ℕ, ◌+◌, ◌-◌, ◌%◌, eqb, ltb, leb, if◌then◌else◌}
 use Rattle.incidence.specs.Count.{indicator, inside}
 use Rattle.incidence.specs.Family.{Family}
 use Rattle.plane.specs.Table.{plane_items, plane_tags, plane_limit, differences, plane_pattern}

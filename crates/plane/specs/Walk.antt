@@ -1,6 +1,5 @@
 -- What the functions of the tables and the walks ask of each other; no contract that another crate relies on cites it. Assumes nothing.
-use Rattle.std.specs.Prelude.{◌≡◌, Bool, true, ◌&&◌, List, [], ◌∷◌, ◌++◌, ℕ, ◌+◌, ◌-◌, ◌≤◌, ltb, leb}
-use Rattle.blocks.specs.Block.{if◌then◌else◌}
+use Rattle.std.specs.Prelude.{◌≡◌, Bool, true, ◌&&◌, List, [], ◌∷◌, ◌++◌, ℕ, ◌+◌, ◌-◌, ◌≤◌, ltb, leb, if◌then◌else◌}
 use Rattle.incidence.specs.Family.{items_of, tags_of}
 use Rattle.plane.specs.Table.{plane_items, differences}
 use Rattle.plane.specs.Plane.{many, plane}

@@ -1,6 +1,7 @@
 -- A polynomial over two elements acts on a sequence of bits: x moves it on by one place. This is all that is used of products: sums of polynomials act
 -- as sums, and x^k times a polynomial acts k places on.
-use Rattle.fips197.proofs.Kit.{◌≡◌, refl, sym, ap, ap₂, ◌∙◌, Bool, true, false, ◌&&◌, List, [], ◌∷◌, ◌++◌, ℕ, zero, suc, ◌+◌, ◌≤◌, ◌<◌, arith, eqb, bit_xor, length, get_or, take, length-take}
+use Rattle.std.specs.Prelude.{◌≡◌, ◌&&◌, ◌∷◌, ◌++◌, ◌+◌, ◌≤◌, ◌<◌}
+use Rattle.fips197.proofs.Kit.{refl, sym, ap, ap₂, ◌∙◌, Bool, true, false, List, [], ℕ, zero, suc, arith, eqb, bit_xor, length, get_or, take, length-take}
 use mathlib.Core.Bool.{xor}
 use Rattle.blocks.specs.Block.{◌⊕◌, zeros}
 use Rattle.incidence.specs.Count.{indicator}

@@ -1,5 +1,6 @@
 -- Euclid's algorithm and long division, step by step: what is left to do gives what the whole gives.
-use Rattle.fips197.proofs.Kit.{◌≡◌, refl, sym, ap, ap₂, ◌∙◌, Bool, true, false, ◌||◌, List, ℕ, zero, suc, ◌+◌, ◌-◌, ◌≤◌, ◌<◌, arith, eqb, ltb, length, set, length-replicate, eq-eqb, ne_eqb, lt-ltb, le-ltb}
+use Rattle.std.specs.Prelude.{◌≡◌, ◌||◌, ◌+◌, ◌-◌, ◌≤◌, ◌<◌}
+use Rattle.fips197.proofs.Kit.{refl, sym, ap, ap₂, ◌∙◌, Bool, true, false, List, ℕ, zero, suc, arith, eqb, ltb, length, set, length-replicate, eq-eqb, ne_eqb, lt-ltb, le-ltb}
 use Rattle.blocks.specs.Block.{◌⊕◌, zeros}
 use Rattle.incidence.proofs.Booleans.{or-first, or_second}
 use Rattle.polynomials.specs.Polynomial.{poly_size, raised, less, gcd_in, gcd, quotient_in, quotient}

@@ -1,6 +1,7 @@
 -- Long division, for any two polynomials: the divisor times the quotient and a rest that is shorter than the divisor add up to what was divided, as
 -- they act on any sequence; and the quotient's degree is the difference of the two degrees.
-use Rattle.fips197.proofs.Kit.{◌≡◌, refl, sym, ap, ap₂, ◌∙◌, Bool, true, false, ◌||◌, ◌&&◌, xor, ◌⊎◌, inl, inr, List, [], ◌∷◌, ℕ, zero, suc, ◌+◌, ◌-◌, ◌≤◌, ◌<◌, arith, eqb, ltb, length, get_or, set, length-set, length-replicate, get_or-set_other, eqb-true, ltb-true, ltb-false}
+use Rattle.std.specs.Prelude.{◌≡◌, ◌||◌, ◌&&◌, ◌⊎◌, ◌∷◌, ◌+◌, ◌-◌, ◌≤◌, ◌<◌}
+use Rattle.fips197.proofs.Kit.{refl, sym, ap, ap₂, ◌∙◌, Bool, true, false, xor, inl, inr, List, [], ℕ, zero, suc, arith, eqb, ltb, length, get_or, set, length-set, length-replicate, get_or-set_other, eqb-true, ltb-true, ltb-false}
 use Rattle.blocks.specs.Block.{zeros}
 use Rattle.incidence.specs.Count.{indicator}
 use Rattle.incidence.proofs.Booleans.{or_cases}

@@ -1,6 +1,7 @@
 -- Euclid's algorithm, for any two polynomials: what sums and powers keep, its result keeps; it ends with one of the two 0; and the result takes to 0
 -- only sequences that both do.
-use Rattle.fips197.proofs.Kit.{◌≡◌, refl, sym, ap, ap₂, ◌∙◌, subst, Bool, true, false, ◌||◌, true≢false, ◌⊎◌, inl, inr, List, [], ◌∷◌, ℕ, zero, suc, ◌+◌, ◌-◌, ◌≤◌, ◌<◌, arith, eqb, ltb, length, eqb-true, eqb-false, ltb-true, ltb-false}
+use Rattle.std.specs.Prelude.{◌≡◌, ◌||◌, ◌⊎◌, ◌∷◌, ◌+◌, ◌-◌, ◌≤◌, ◌<◌}
+use Rattle.fips197.proofs.Kit.{refl, sym, ap, ap₂, ◌∙◌, subst, Bool, true, false, true≢false, inl, inr, List, [], ℕ, zero, suc, arith, eqb, ltb, length, eqb-true, eqb-false, ltb-true, ltb-false}
 use Rattle.blocks.specs.Block.{◌⊕◌, zeros}
 use Rattle.blocks.proofs.Xor.{⊕_comm, ⊕-zeros}
 use Rattle.incidence.proofs.Booleans.{or_cases}

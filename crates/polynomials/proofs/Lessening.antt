@@ -1,5 +1,6 @@
 -- Sizes by coefficients, and that a step of long division makes a polynomial shorter.
-use Rattle.fips197.proofs.Kit.{◌≡◌, refl, sym, ap, ap₂, ◌∙◌, Bool, true, false, List, [], ◌∷◌, ◌++◌, ℕ, zero, suc, ◌-◌, ◌≤◌, ◌<◌, arith, eqb, ltb, bit_xor, xor_lt, length, get_or, take, List·getD-eq-default, eqb-true, eq-eqb, ltb-true, ltb-false}
+use Rattle.std.specs.Prelude.{◌≡◌, ◌∷◌, ◌++◌, ◌-◌, ◌≤◌, ◌<◌}
+use Rattle.fips197.proofs.Kit.{refl, sym, ap, ap₂, ◌∙◌, Bool, true, false, List, [], ℕ, zero, suc, arith, eqb, ltb, bit_xor, xor_lt, length, get_or, take, List·getD-eq-default, eqb-true, eq-eqb, ltb-true, ltb-false}
 use Rattle.blocks.specs.Block.{◌⊕◌, zeros}
 use Rattle.blocks.proofs.Xor.{⊕-at}
 use Rattle.incidence.specs.Count.{indicator}

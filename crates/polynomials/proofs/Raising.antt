@@ -1,5 +1,6 @@
 -- The laws of `raised`, and of a loop that adds a raised polynomial from its lowest term on.
-use Rattle.fips197.proofs.Kit.{◌≡◌, refl, sym, ap, ap₂, ◌∙◌, List, [], ◌∷◌, ◌++◌, ℕ, zero, suc, ◌+◌, ◌-◌, ◌≤◌, ◌<◌, arith, bit_xor, length, get_or, set, take, drop, length-append, length-take, length-replicate, take-append-drop, take-length, take-take, take_at, get_or-take, get_or-append-add}
+use Rattle.std.specs.Prelude.{◌≡◌, ◌∷◌, ◌++◌, ◌+◌, ◌-◌, ◌≤◌, ◌<◌}
+use Rattle.fips197.proofs.Kit.{refl, sym, ap, ap₂, ◌∙◌, List, [], ℕ, zero, suc, arith, bit_xor, length, get_or, set, take, drop, length-append, length-take, length-replicate, take-append-drop, take-length, take-take, take_at, get_or-take, get_or-append-add}
 use Rattle.blocks.specs.Block.{◌⊕◌, zeros}
 use Rattle.blocks.proofs.Xor.{⊕-at, ⊕-length, ⊕-zeros}
 use Rattle.blocks.proofs.Loop.{part, part_turn, part_read, part_done}

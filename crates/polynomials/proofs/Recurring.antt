@@ -1,6 +1,7 @@
 -- A sequence that a polynomial of degree n takes to 0 and no shorter one does: n − 1 times 0, then 1, and from there on as the polynomial says. So a
 -- polynomial shorter than g that takes to 0 all that g does is 0.
-use Rattle.fips197.proofs.Kit.{◌≡◌, refl, sym, ap, ap₂, ◌∙◌, Bool, true, false, ◌&&◌, xor, and-false, true≢false, List, [], ◌∷◌, ℕ, zero, suc, ◌+◌, ◌-◌, ◌≤◌, ◌<◌, arith, eqb, length, take, eq-eqb, ne_eqb}
+use Rattle.std.specs.Prelude.{◌≡◌, ◌&&◌, ◌∷◌, ◌+◌, ◌-◌, ◌≤◌, ◌<◌}
+use Rattle.fips197.proofs.Kit.{refl, sym, ap, ap₂, ◌∙◌, Bool, true, false, xor, and-false, true≢false, List, [], ℕ, zero, suc, arith, eqb, length, take, eq-eqb, ne_eqb}
 use Rattle.incidence.proofs.Counting.{bit-most}
 use Rattle.polynomials.specs.Polynomial.{longer, poly_size}
 use Rattle.incidence.proofs.Parity.{xor-none, xor_self, xor_three, xor_turn}

@@ -1,5 +1,6 @@
 -- The laws of `poly_size`: it is at most the length, and a walk from the front has it of the coefficients passed.
-use Rattle.fips197.proofs.Kit.{◌≡◌, refl, sym, ap, ◌∙◌, List, [], ◌∷◌, ℕ, zero, suc, ◌+◌, ◌-◌, ◌≤◌, ◌<◌, arith, add-one, eqb, length, get_or, take, take_all, eq-eqb, ne_eqb}
+use Rattle.std.specs.Prelude.{◌≡◌, ◌∷◌, ◌+◌, ◌-◌, ◌≤◌, ◌<◌}
+use Rattle.fips197.proofs.Kit.{refl, sym, ap, ◌∙◌, List, [], ℕ, zero, suc, arith, add-one, eqb, length, get_or, take, take_all, eq-eqb, ne_eqb}
 use Rattle.incidence.specs.Count.{indicator}
 use Rattle.incidence.proofs.Counting.{bit-most}
 use Rattle.polynomials.specs.Polynomial.{longer, poly_size}

@@ -1,6 +1,6 @@
 -- The lines of the named cards: one card more, and what is left to put.
-use Rattle.fips197.proofs.Kit.{◌≡◌, refl, sym, ap, Bool, true, false, List, [], ◌++◌, ℕ, zero, suc, ◌+◌, ◌≤◌, ◌<◌, arith, add-one, eqb, length, get_or, length-append, eqb-true, eqb-false, eq-eqb, ne_eqb}
-use Rattle.blocks.specs.Block.{if◌then◌else◌}
+use Rattle.std.specs.Prelude.{◌≡◌, ◌++◌, ◌+◌, ◌≤◌, ◌<◌, if◌then◌else◌}
+use Rattle.fips197.proofs.Kit.{refl, sym, ap, Bool, true, false, List, [], ℕ, zero, suc, arith, add-one, eqb, length, get_or, length-append, eqb-true, eqb-false, eq-eqb, ne_eqb}
 use Rattle.printing.specs.Lines.{card_line, card_part, card_lines}
 
 pub part_none : (mark j : ℕ) → (mark ≡ 1 → ⊥) → [] ≡ card_part mark j

@@ -1,7 +1,7 @@
 -- Numbers in decimal: their digits do not depend on how many are allowed, the last one stands behind those of n / 10, and how many there
 -- are.
-use Rattle.fips197.proofs.Kit.{◌≡◌, refl, sym, ◌∙◌, ap, subst, Bool, true, false, List, [], ◌∷◌, ◌++◌, append_assoc, ℕ, zero, suc, ◌+◌, ◌-◌, ◌*◌, ◌/◌, ◌%◌, ◌^◌, ◌≤◌, ◌<◌, arith, add-one, pow-succ', eqb, ltb, length, take, drop, set, length-append, length-take, length-drop, drop_of_length-le, set_split, drop_at, take_all, ltb-true, ltb-false, eqb-false, eq-eqb, ne_eqb}
-use Rattle.blocks.specs.Block.{if◌then◌else◌}
+use Rattle.std.specs.Prelude.{◌≡◌, ◌∷◌, ◌++◌, ◌+◌, ◌-◌, ◌*◌, ◌/◌, ◌%◌, ◌^◌, ◌≤◌, ◌<◌, if◌then◌else◌}
+use Rattle.fips197.proofs.Kit.{refl, sym, ◌∙◌, ap, subst, Bool, true, false, List, [], append_assoc, ℕ, zero, suc, arith, add-one, pow-succ', eqb, ltb, length, take, drop, set, length-append, length-take, length-drop, drop_of_length-le, set_split, drop_at, take_all, ltb-true, ltb-false, eqb-false, eq-eqb, ne_eqb}
 use Rattle.printing.specs.Text.{digits, decimal}
 
 digits_enough : (f g n : ℕ) → n < f → n < g → digits f n ≡ digits g n

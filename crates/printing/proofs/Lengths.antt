@@ -1,6 +1,6 @@
 -- How long the lines can be: no number of 64 bits has more than 20 digits.
-use Rattle.fips197.proofs.Kit.{◌≡◌, refl, Bool, true, false, List, [], ◌++◌, ℕ, zero, suc, ◌+◌, ◌*◌, ◌^◌, ◌≤◌, ◌<◌, String, arith, eqb, length, get_or, length-append}
-use Rattle.blocks.specs.Block.{if◌then◌else◌}
+use Rattle.std.specs.Prelude.{◌≡◌, ◌++◌, ◌+◌, ◌*◌, ◌^◌, ◌≤◌, ◌<◌, if◌then◌else◌}
+use Rattle.fips197.proofs.Kit.{refl, Bool, true, false, List, [], ℕ, zero, suc, String, arith, eqb, length, get_or, length-append}
 use Rattle.incidence.specs.declared.Answer.{Answer}
 use Rattle.incidence.specs.declared.Answer.TheVariants.{Intact, Named, Beyond}
 use Rattle.sizes.specs.Sizes.{family_of}

@@ -1,5 +1,6 @@
 -- A text put over a list, and two put one behind the other.
-use Rattle.fips197.proofs.Kit.{◌≡◌, sym, ◌∙◌, ap, ap₂, subst, List, [], ◌++◌, append_assoc, ℕ, ◌+◌, ◌≤◌, add-zero, zero-add, arith, length, take, drop, length-append, length-take, length-drop, take-append-drop, length-take-le, take_at, drop-append-add, drop-drop}
+use Rattle.std.specs.Prelude.{◌≡◌, ◌++◌, ◌+◌, ◌≤◌}
+use Rattle.fips197.proofs.Kit.{sym, ◌∙◌, ap, ap₂, subst, List, [], append_assoc, ℕ, add-zero, zero-add, arith, length, take, drop, length-append, length-take, length-drop, take-append-drop, length-take-le, take_at, drop-append-add, drop-drop}
 use Rattle.printing.specs.Text.{over}
 
 -- a text is put at a place of s: s' is what is there then, and r the place behind the text

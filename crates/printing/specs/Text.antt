@@ -1,8 +1,7 @@
 -- Text as ASCII bytes: words, numbers in decimal, and what a list holds once text is put over it. Assumes nothing.
-use Rattle.std.specs.Prelude.{List, [], ◌∷◌, ◌++◌, ℕ, zero, suc, ◌+◌, ◌/◌, ◌%◌, ltb, length, take, drop}
+use Rattle.std.specs.Prelude.{List, [], ◌∷◌, ◌++◌, ℕ, zero, suc, ◌+◌, ◌/◌, ◌%◌, ltb, length, take, drop, if◌then◌else◌}
 use Prim.Native.Char.{code}
 use Prim.Native.String.{String, [] as end, ◌∷◌ as ◌then◌}
-use Rattle.blocks.specs.Block.{if◌then◌else◌}
 
 -- the codes of a text's characters
 unfoldable pub ascii : String → List ℕ

@@ -1,7 +1,8 @@
 -- Demand 3 and requests 2.2 and 2.13 of what is printed: where the first message is tagged and the second is a message of as many items with
 -- the same number, the lines are those of a report that is not refused (scheme, Guarantees), of which they hold (scheme, Claiming).
-use Rattle.fips197.proofs.Kit.{◌≡◌, refl, sym, ap, ◌∙◌, Bool, true, List, ℕ, ◌≤◌, arith, drop}
-use Rattle.blocks.specs.Block.{if◌then◌else◌, Bytes, zeros}
+use Rattle.std.specs.Prelude.{◌≡◌, ◌≤◌, if◌then◌else◌}
+use Rattle.fips197.proofs.Kit.{refl, sym, ap, ◌∙◌, Bool, true, List, ℕ, arith, drop}
+use Rattle.blocks.specs.Block.{Bytes, zeros}
 use Rattle.blocks.proofs.Xor.{take-bytes, drop-bytes}
 use Rattle.sizes.proofs.Laws.{items_few}
 use Rattle.stamp.specs.Front.{stamp_of}

@@ -1,5 +1,6 @@
 -- What the tests of an input settle, and what a readable input holds.
-use Rattle.fips197.proofs.Kit.{◌≡◌, sym, ap, ◌∙◌, Bool, true, false, ◌&&◌, List, ℕ, ◌+◌, ◌≤◌, ◌<◌, leb, length, leb-true, le-leb, lt-leb}
+use Rattle.std.specs.Prelude.{◌≡◌, ◌&&◌, ◌+◌, ◌≤◌, ◌<◌}
+use Rattle.fips197.proofs.Kit.{sym, ap, ◌∙◌, Bool, true, false, List, ℕ, leb, length, leb-true, le-leb, lt-leb}
 use Rattle.incidence.proofs.Booleans.{and_left, and_right, and_false_l, and_false_r}
 use Rattle.reporting.specs.Printed.{first_size, readable}
 

@@ -1,6 +1,7 @@
 -- What each function puts is the text that its contract names: refused, or done.
-use Rattle.fips197.proofs.Kit.{◌≡◌, sym, ap, ap₂, ◌∙◌, Bool, true, false, List, ◌++◌, ℕ, ◌+◌, ◌-◌, arith, length, get_or, take, drop, length-drop, take_at, take_all}
-use Rattle.blocks.specs.Block.{if◌then◌else◌, zeros}
+use Rattle.std.specs.Prelude.{◌≡◌, ◌++◌, ◌+◌, ◌-◌, if◌then◌else◌}
+use Rattle.fips197.proofs.Kit.{sym, ap, ap₂, ◌∙◌, Bool, true, false, List, ℕ, arith, length, get_or, take, drop, length-drop, take_at, take_all}
+use Rattle.blocks.specs.Block.{zeros}
 use Rattle.blocks.proofs.Slots.{slot-length}
 use Rattle.incidence.specs.declared.Answer.{Answer}
 use Rattle.files.specs.declared.Refusal.{Refusal}

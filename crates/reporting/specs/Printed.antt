@@ -1,6 +1,6 @@
 -- Document 01, 'Bench cards': what the report program prints, for every input. Assumes nothing.
-use Rattle.std.specs.Prelude.{Bool, ◌&&◌, List, ℕ, ◌+◌, leb, length, get_or, take, drop}
-use Rattle.blocks.specs.Block.{if◌then◌else◌, zeros}
+use Rattle.std.specs.Prelude.{Bool, ◌&&◌, List, ℕ, ◌+◌, leb, length, get_or, take, drop, if◌then◌else◌}
+use Rattle.blocks.specs.Block.{zeros}
 use Rattle.files.specs.Refusals.{passes}
 use Rattle.files.specs.Message.{number16, item_count, item}
 use Rattle.tagging.specs.Tagging.{keys_in, tag_file, tag_head}

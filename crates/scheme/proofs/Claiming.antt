@@ -1,7 +1,8 @@
 -- Demand 3 of Report, and requests 2.2 and 2.13: against an unaltered tag file, a row agrees where the XORs of its old and new hashes are
 -- equal; the rest is the detection theorem, the counting theorem and the naming theorem of crate incidence.
-use Rattle.fips197.proofs.Kit.{◌≡◌, refl, sym, ap, ap₂, ◌∙◌, subst, Bool, true, false, not, List, [], ◌∷◌, ◌++◌, ◌⊎◌, inl, inr, ℕ, zero, suc, ◌-◌, ◌≤◌, ◌<◌, arith, le_of_suc-le-suc, eq-or-lt_of_le, eqb, length, get_or, length-append, List·getD-append, get_or_at}
-use Rattle.blocks.specs.Block.{if◌then◌else◌, Bytes, same}
+use Rattle.std.specs.Prelude.{◌≡◌, ◌∷◌, ◌++◌, ◌⊎◌, ◌-◌, ◌≤◌, ◌<◌, if◌then◌else◌}
+use Rattle.fips197.proofs.Kit.{refl, sym, ap, ap₂, ◌∙◌, subst, Bool, true, false, not, List, [], inl, inr, ℕ, zero, suc, arith, le_of_suc-le-suc, eq-or-lt_of_le, eqb, length, get_or, length-append, List·getD-append, get_or_at}
+use Rattle.blocks.specs.Block.{Bytes, same}
 use Rattle.blocks.proofs.Xor.{same_true, same_eq}
 use Rattle.incidence.specs.Count.{count_up_to}
 use Rattle.incidence.specs.Count.{indicator}

@@ -1,5 +1,6 @@
 -- The rows agree by the tags' differences as Report's definition says, and so does all that is decoded from them.
-use Rattle.fips197.proofs.Kit.{◌≡◌, ap, ◌∙◌, sym, List, ◌++◌, ℕ, suc, ◌-◌, ◌≤◌, arith, length, drop}
+use Rattle.std.specs.Prelude.{◌≡◌, ◌++◌, ◌-◌, ◌≤◌}
+use Rattle.fips197.proofs.Kit.{ap, ◌∙◌, sym, List, ℕ, suc, arith, length, drop}
 use Rattle.blocks.specs.Block.{slot}
 use Rattle.incidence.specs.Report.{named, number_named, disagreeing, answer}
 use Rattle.incidence.specs.declared.Answer.{Answer}

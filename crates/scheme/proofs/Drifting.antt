@@ -2,7 +2,8 @@
 -- and one number, so that an item of the same bytes has the same hash in both; the rest is the drift theorem of crate incidence. And what it
 -- is good for: a jump tells that more items differ, and where no row cancels the bound is met. That it is not empty is Guarantees.antt:
 -- other_not_refused.
-use Rattle.fips197.proofs.Kit.{◌≡◌, refl, sym, ap, ap₂, ◌∙◌, subst, true, false, List, ℕ, ◌+◌, ◌*◌, ◌≤◌, ◌<◌, arith, length}
+use Rattle.std.specs.Prelude.{◌≡◌, ◌+◌, ◌*◌, ◌≤◌, ◌<◌}
+use Rattle.fips197.proofs.Kit.{refl, sym, ap, ap₂, ◌∙◌, subst, true, false, List, ℕ, arith, length}
 use Rattle.blocks.specs.Block.{Bytes, same}
 use Rattle.incidence.specs.Count.{count_up_to}
 use Rattle.incidence.specs.Family.{Family, holds_one, rows_holding}

@@ -1,6 +1,7 @@
 -- From sums to files and back: what the calls write, and the sums that a file gives.
-use Rattle.fips197.proofs.Kit.{◌≡◌, refl, sym, ap, ap₂, ◌∙◌, subst, Bool, true, false, List, ◌++◌, ℕ, suc, ◌-◌, ◌*◌, ◌≤◌, ◌<◌, arith, length, take, drop, length-append, length-take, length-drop, take_at, drop_at}
-use Rattle.blocks.specs.Block.{if◌then◌else◌, ◌⊕◌, slot, list_of, same}
+use Rattle.std.specs.Prelude.{◌≡◌, ◌++◌, ◌-◌, ◌*◌, ◌≤◌, ◌<◌, if◌then◌else◌}
+use Rattle.fips197.proofs.Kit.{refl, sym, ap, ap₂, ◌∙◌, subst, Bool, true, false, List, ℕ, suc, arith, length, take, drop, length-append, length-take, length-drop, take_at, drop_at}
+use Rattle.blocks.specs.Block.{◌⊕◌, slot, list_of, same}
 use Rattle.cipher.specs.Aes.{encipher, decipher}
 use Rattle.blocks.proofs.Xor.{same_true, same_eq}
 use Rattle.blocks.proofs.Slots.{slot-length, list_of-length, list_of_ext, slot-list_of}

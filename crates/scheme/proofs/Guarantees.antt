@@ -2,8 +2,9 @@
 -- verified, a report against an unaltered file of any version is not refused, but by 25 where the numbers differ, nor is a second one against
 -- the file of a first, Replace is tagging afresh, demand 3 is met by no report that names every item, none, or says "beyond" of an unchanged
 -- message, and what the number of rows tells.
-use Rattle.fips197.proofs.Kit.{◌≡◌, refl, sym, ap, ◌∙◌, Bool, true, false, not, List, [], ◌∷◌, ◌++◌, ◌↔◌, ℕ, suc, ◌+◌, ◌*◌, ◌≤◌, ◌<◌, arith, length, drop, eq-eqb, ne_eqb, le-leb, lt-ltb}
-use Rattle.blocks.specs.Block.{if◌then◌else◌, Bytes, ◌⊕◌, same, list_of}
+use Rattle.std.specs.Prelude.{◌≡◌, ◌∷◌, ◌++◌, ◌↔◌, ◌+◌, ◌*◌, ◌≤◌, ◌<◌, if◌then◌else◌}
+use Rattle.fips197.proofs.Kit.{refl, sym, ap, ◌∙◌, Bool, true, false, not, List, [], ℕ, suc, arith, length, drop, eq-eqb, ne_eqb, le-leb, lt-ltb}
+use Rattle.blocks.specs.Block.{Bytes, ◌⊕◌, same, list_of}
 use Rattle.blocks.proofs.Xor.{same_true, same_eq, take-bytes, drop-bytes, ⊕_assoc}
 use Rattle.incidence.specs.Count.{count_up_to}
 use Rattle.incidence.specs.Family.{Family}

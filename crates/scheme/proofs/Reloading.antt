@@ -1,8 +1,9 @@
 -- What a list of named items is good for (document 02, 2.13), of a report against the unaltered file of the old items, where no row cancels:
 -- every changed item is on it, up to the limit no other is, and a reload of all that are on it leaves no item changed, so that the next report
 -- says "intact".
-use Rattle.fips197.proofs.Kit.{◌≡◌, refl, sym, ap, ◌∙◌, Bool, true, false, not, List, ℕ, ◌≤◌, arith, length}
-use Rattle.blocks.specs.Block.{if◌then◌else◌, Bytes, same}
+use Rattle.std.specs.Prelude.{◌≡◌, ◌≤◌, if◌then◌else◌}
+use Rattle.fips197.proofs.Kit.{refl, sym, ap, ◌∙◌, Bool, true, false, not, List, ℕ, arith, length}
+use Rattle.blocks.specs.Block.{Bytes, same}
 use Rattle.incidence.specs.Count.{count_up_to}
 use Rattle.incidence.specs.declared.Answer.TheVariants.{Intact}
 use Rattle.incidence.proofs.Booleans.{not_both, not_passed}

@@ -1,6 +1,7 @@
 -- An unaltered tag file: what it says, that it is accepted, and that its tags give back the row sums of the items it was made of.
-use Rattle.fips197.proofs.Kit.{◌≡◌, refl, sym, ap, ◌∙◌, Bool, true, false, List, [], append-nil, ℕ, zero, suc, ◌-◌, ◌*◌, ◌≤◌, ◌<◌, arith, leb, length, drop, leb-true}
-use Rattle.blocks.specs.Block.{if◌then◌else◌, Bytes, Block, ◌⊕◌, slot, list_of}
+use Rattle.std.specs.Prelude.{◌≡◌, ◌-◌, ◌*◌, ◌≤◌, ◌<◌, if◌then◌else◌}
+use Rattle.fips197.proofs.Kit.{refl, sym, ap, ◌∙◌, Bool, true, false, List, [], append-nil, ℕ, zero, suc, arith, leb, length, drop, leb-true}
+use Rattle.blocks.specs.Block.{Bytes, Block, ◌⊕◌, slot, list_of}
 use Rattle.blocks.proofs.Xor.{⊕-block, zeros-block, append-bytes, take-bytes, drop-bytes}
 use Rattle.blocks.proofs.Slots.{slot-length, list_of-length, slot-list_of}
 use Rattle.incidence.specs.Sum.{sum_over, row_sum, expanded}

@@ -1,8 +1,9 @@
 -- Vacant places (document 02, 2.5), for a reader who wants to know what they are good for: a vacant place counts as no item, and those at the
 -- end change no tag; Replace withdraws an item and adds one, each as tagging afresh does, and an item withdrawn and added again gives the old
 -- bytes; an item against a vacant place is a change.
-use Rattle.fips197.proofs.Kit.{◌≡◌, refl, sym, ap, ◌∙◌, subst, Bool, true, false, not, ◌&&◌, List, [], ◌++◌, ℕ, suc, ◌≤◌, ◌<◌, arith, eqb, length, take, drop, take_at, eqb-true, not-true, not-false}
-use Rattle.blocks.specs.Block.{if◌then◌else◌, Bytes, same, zeros}
+use Rattle.std.specs.Prelude.{◌≡◌, ◌&&◌, ◌++◌, ◌≤◌, ◌<◌, if◌then◌else◌}
+use Rattle.fips197.proofs.Kit.{refl, sym, ap, ◌∙◌, subst, Bool, true, false, not, List, [], ℕ, suc, arith, eqb, length, take, drop, take_at, eqb-true, not-true, not-false}
+use Rattle.blocks.specs.Block.{Bytes, same, zeros}
 use Rattle.blocks.proofs.Xor.{same_true}
 use Rattle.blocks.proofs.Slots.{list_of_ext}
 use Rattle.cipher.specs.Cmac.{cmac}

@@ -1,8 +1,8 @@
 -- Document 01, 'Calls and order of checks', with the versions, numbers and vacant places of document 02, 2.3 and 2.5: Tag, Verify, Report and
 -- Replace, each as what it answers and what it leaves in the buffer that it is lent, for all inputs. What each refuses is in checks,
 -- Refused.antt. Assumes nothing.
-use Rattle.std.specs.Prelude.{Bool, false, List, ◌++◌, ℕ, suc, ◌-◌, eqb, length, drop}
-use Rattle.blocks.specs.Block.{if◌then◌else◌, same, ◌⊕◌, slot, list_of}
+use Rattle.std.specs.Prelude.{Bool, false, List, ◌++◌, ℕ, suc, ◌-◌, eqb, length, drop, if◌then◌else◌}
+use Rattle.blocks.specs.Block.{same, ◌⊕◌, slot, list_of}
 use Rattle.incidence.specs.Sum.{row_sum, expanded}
 use Rattle.incidence.specs.Report.{named, number_named, disagreeing, answer}
 use Rattle.incidence.specs.declared.Answer.{Answer}

@@ -2,8 +2,8 @@
 -- whatever was done to the items. `Detects` (crate incidence) has a field for each sentence of the demand. And in the same words three requests
 -- of document 02: 2.2, of the number of rows that it returned (`Tallies`), 2.13, of the marks (`NamesCovered`), with the items after a reload,
 -- and 2.14, of that number beside another report's (`Drifts`). Assumes nothing.
-use Rattle.std.specs.Prelude.{◌≡◌, Bool, true, not, List, ℕ, ◌-◌, ◌≤◌, eqb, length, get_or}
-use Rattle.blocks.specs.Block.{if◌then◌else◌, Bytes, same}
+use Rattle.std.specs.Prelude.{◌≡◌, Bool, true, not, List, ℕ, ◌-◌, ◌≤◌, eqb, length, get_or, if◌then◌else◌}
+use Rattle.blocks.specs.Block.{Bytes, same}
 use Rattle.incidence.specs.Count.{count_up_to}
 use Rattle.incidence.specs.Family.{Family}
 use Rattle.incidence.specs.Sum.{row_sum}

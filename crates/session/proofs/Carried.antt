@@ -1,6 +1,7 @@
 -- The sums that a session carries: a value added to those of one item's tags; zeros leave them as they are.
-use Rattle.fips197.proofs.Kit.{◌≡◌, refl, sym, ap, ◌∙◌, Bool, true, false, List, ◌++◌, ℕ, suc, ◌-◌, ◌*◌, ◌≤◌, ◌<◌, arith, length, drop, length-append, length-drop, drop_at}
-use Rattle.blocks.specs.Block.{if◌then◌else◌, ◌⊕◌, zeros, slot, list_of}
+use Rattle.std.specs.Prelude.{◌≡◌, ◌++◌, ◌-◌, ◌*◌, ◌≤◌, ◌<◌, if◌then◌else◌}
+use Rattle.fips197.proofs.Kit.{refl, sym, ap, ◌∙◌, Bool, true, false, List, ℕ, suc, arith, length, drop, length-append, length-drop, drop_at}
+use Rattle.blocks.specs.Block.{◌⊕◌, zeros, slot, list_of}
 use Rattle.blocks.proofs.Xor.{⊕-length}
 use Rattle.blocks.proofs.Slots.{slot-length, slot-list_of, list_of-length, list_of_ext}
 use Rattle.incidence.proofs.Sums.{adds_nothing}

@@ -1,6 +1,7 @@
 -- Which sessions a run of the calls can give: an open one or the closed one (`opens`), and of open ones every size code, count and number
 -- taken that `session_is_open` lets through (`some_run`). So `session_is_open` is exactly what document 01 says of it (`open_exactly`, `treated_as_closed`).
-use Rattle.fips197.proofs.Kit.{◌≡◌, refl, sym, ap, ◌∙◌, subst, Bool, true, false, ◌&&◌, List, [], ◌∷◌, ◌⊎◌, inl, inr, ⊎_elim, ℕ, zero, suc, ◌+◌, ◌≤◌, ◌<◌, arith, eqb, leb, length, eqb-true, eqb-false, leb-true, le-leb}
+use Rattle.std.specs.Prelude.{◌≡◌, ◌&&◌, ◌∷◌, ◌⊎◌, ◌+◌, ◌≤◌, ◌<◌}
+use Rattle.fips197.proofs.Kit.{refl, sym, ap, ◌∙◌, subst, Bool, true, false, List, [], inl, inr, ⊎_elim, ℕ, zero, suc, arith, eqb, leb, length, eqb-true, eqb-false, leb-true, le-leb}
 use Rattle.blocks.specs.Block.{zeros}
 use Rattle.incidence.proofs.Booleans.{not_both, and_left, and_right, and_both}
 use Rattle.incidence.proofs.Counting.{inside_yes}

@@ -1,7 +1,8 @@
 -- A run of a session: Begin, a Put for each item, Close. What the session carries after each step (`taken_all`); that a run gets to its
 -- end (`accepts`, `runs`); that Close then writes the file that Tag's rule gives for the items put (`closes`); and what a run cannot do:
 -- put one item more (`full`), close before the last (`early`), or go on after Close (`shut`). Last, a put of a vacant place (`put_vacant`).
-use Rattle.fips197.proofs.Kit.{◌≡◌, refl, sym, ap, ◌∙◌, subst, true, false, List, [], ◌∷◌, ◌++◌, ◌⊎◌, inl, inr, ℕ, zero, suc, ◌+◌, ◌≤◌, ◌<◌, le_of_suc-le-suc, eq-or-lt_of_le, add-one, arith, leb, length, drop, eq-eqb, ne_eqb, le-leb, lt-ltb, le-ltb}
+use Rattle.std.specs.Prelude.{◌≡◌, ◌∷◌, ◌++◌, ◌⊎◌, ◌+◌, ◌≤◌, ◌<◌}
+use Rattle.fips197.proofs.Kit.{refl, sym, ap, ◌∙◌, subst, true, false, List, [], inl, inr, ℕ, zero, suc, le_of_suc-le-suc, eq-or-lt_of_le, add-one, arith, leb, length, drop, eq-eqb, ne_eqb, le-leb, lt-ltb, le-ltb}
 use Rattle.blocks.specs.Block.{zeros, slot}
 use Rattle.blocks.proofs.Slots.{slot-length}
 use Rattle.cipher.specs.Cmac.{cmac}

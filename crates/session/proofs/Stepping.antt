@@ -1,5 +1,6 @@
 -- One step: what its refusals tell of a session that passes them, and what it gives.
-use Rattle.fips197.proofs.Kit.{◌≡◌, true, ◌&&◌, List, [], ◌∷◌, ℕ, ◌+◌, ◌≤◌, ◌<◌, arith, eqb, leb, ltb, length, eqb-true, leb-true, ltb-true}
+use Rattle.std.specs.Prelude.{◌≡◌, ◌&&◌, ◌∷◌, ◌+◌, ◌≤◌, ◌<◌}
+use Rattle.fips197.proofs.Kit.{true, List, [], ℕ, arith, eqb, leb, ltb, length, eqb-true, leb-true, ltb-true}
 use Rattle.blocks.specs.Block.{zeros}
 use Rattle.incidence.specs.Count.{inside}
 use Rattle.incidence.proofs.Counting.{inside-low, inside-high}

@@ -1,8 +1,8 @@
 -- Document 01, sessions: "A session carries its row sums and all three keys with it; each step takes the session and gives back the next."
 -- Begin, which is handed the shelf's number (document 02, 2.3), Put and Close, each as what it refuses, the session that it gives and, of
 -- Close, what it leaves in the lent buffer, for all sessions and inputs. Assumes nothing.
-use Rattle.std.specs.Prelude.{◌≡◌, Bool, ◌&&◌, List, [], ◌∷◌, ◌++◌, ℕ, zero, suc, ◌+◌, ◌*◌, eqb, leb, ltb, length, drop}
-use Rattle.blocks.specs.Block.{if◌then◌else◌, ◌⊕◌, zeros, slot, list_of}
+use Rattle.std.specs.Prelude.{◌≡◌, Bool, ◌&&◌, List, [], ◌∷◌, ◌++◌, ℕ, zero, suc, ◌+◌, ◌*◌, eqb, leb, ltb, length, drop, if◌then◌else◌}
+use Rattle.blocks.specs.Block.{◌⊕◌, zeros, slot, list_of}
 use Rattle.sizes.specs.Sizes.{family_of}
 use Rattle.files.specs.declared.Refusal.{Refusal}
 use Rattle.files.specs.Refusals.{unless, passes, first}

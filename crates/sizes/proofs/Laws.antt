@@ -1,7 +1,7 @@
 -- What a crate above may use of the size codes: every known code's family is lawful, a plane's is projective and its limit at least 2, the
 -- numbers are small, and a code that is none has nothing. It rules nothing else of planes, and nothing of lines.
-use Rattle.fips197.proofs.Kit.{◌≡◌, refl, ap, ◌∙◌, sym, Bool, true, false, List, ◌++◌, subst, ◌⊎◌, inl, inr, ℕ, zero, suc, ◌/◌, ◌%◌, ◌≤◌, ◌<◌, arith, leb, length, get_or, drop, List·getD-append, leb-true, leb-false}
-use Rattle.blocks.specs.Block.{if◌then◌else◌}
+use Rattle.std.specs.Prelude.{◌≡◌, ◌++◌, ◌⊎◌, ◌/◌, ◌%◌, ◌≤◌, ◌<◌, if◌then◌else◌}
+use Rattle.fips197.proofs.Kit.{refl, ap, ◌∙◌, sym, Bool, true, false, List, subst, inl, inr, ℕ, zero, suc, arith, leb, length, get_or, drop, List·getD-append, leb-true, leb-false}
 use Rattle.incidence.specs.Count.{inside}
 use Rattle.incidence.specs.Family.{Family, Lawful, Projective, items_of, tags_of}
 use Rattle.incidence.proofs.Booleans.{or_cases, or-first, or_second, not_both, not_passed}

@@ -1,7 +1,6 @@
 -- Document 01, Planes, and document 02, 2.7: the size codes. The one place that names them; everything above speaks of `known`, `family_of`
 -- and, where request 2.2 tells planes apart, `plane_code` alone. Assumes nothing.
-use Rattle.std.specs.Prelude.{Bool, ◌||◌, ℕ, ◌/◌, ◌%◌}
-use Rattle.blocks.specs.Block.{if◌then◌else◌}
+use Rattle.std.specs.Prelude.{Bool, ◌||◌, ℕ, ◌/◌, ◌%◌, if◌then◌else◌}
 use Rattle.incidence.specs.Count.{inside}
 use Rattle.incidence.specs.Family.{Family}
 use Rattle.plane.specs.Plane.{plane}

@@ -1,6 +1,7 @@
 -- Letters, version and number: what is laid out is read back, and what is read is what was laid out.
-use Rattle.fips197.proofs.Kit.{◌≡◌, refl, sym, ap, ap₂, ◌∙◌, subst, Bool, true, false, ◌&&◌, List, [], ◌∷◌, ◌++◌, append_assoc, append-nil, ℕ, suc, ◌+◌, ◌^◌, ◌≤◌, ◌<◌, add-one, arith, eqb, eqb-true, eqb-false, leb, leb-true, le-leb, lt-leb, length, get_or, take, drop, drop-cons, length-append, length-take, length-drop, take-add, take_at, drop_at, drop-drop, eq-eqb, ne_eqb, ltb-true}
-use Rattle.blocks.specs.Block.{if◌then◌else◌, Bytes, same}
+use Rattle.std.specs.Prelude.{◌≡◌, ◌&&◌, ◌∷◌, ◌++◌, ◌+◌, ◌^◌, ◌≤◌, ◌<◌, if◌then◌else◌}
+use Rattle.fips197.proofs.Kit.{refl, sym, ap, ap₂, ◌∙◌, subst, Bool, true, false, List, [], append_assoc, append-nil, ℕ, suc, add-one, arith, eqb, eqb-true, eqb-false, leb, leb-true, le-leb, lt-leb, length, get_or, take, drop, drop-cons, length-append, length-take, length-drop, take-add, take_at, drop_at, drop-drop, eq-eqb, ne_eqb, ltb-true}
+use Rattle.blocks.specs.Block.{Bytes, same}
 use Rattle.blocks.specs.Number.{number_of, number, big_endian}
 use Rattle.incidence.specs.Count.{inside}
 use Rattle.incidence.proofs.Booleans.{and_left, and_right, and_false_l, and_false_r}

@@ -2,8 +2,8 @@
 -- of the shelf. "Version 2 of both files carries a 4-byte shelf number directly after the version." "Version 1 counts as number 0". Sheet
 -- version 3 is "laid out as version 2" (2.5).
 -- Assumes nothing.
-use Rattle.std.specs.Prelude.{Bool, ◌&&◌, List, ◌++◌, ℕ, ◌+◌, ◌^◌, eqb, leb, ltb, length, take, drop}
-use Rattle.blocks.specs.Block.{if◌then◌else◌, same}
+use Rattle.std.specs.Prelude.{Bool, ◌&&◌, List, ◌++◌, ℕ, ◌+◌, ◌^◌, eqb, leb, ltb, length, take, drop, if◌then◌else◌}
+use Rattle.blocks.specs.Block.{same}
 use Rattle.incidence.specs.Count.{inside}
 use Rattle.blocks.specs.Number.{number, big_endian}
 use Rattle.stamp.specs.declared.Stamp.{Stamp}

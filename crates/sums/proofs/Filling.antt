@@ -1,7 +1,8 @@
 -- All rows from the tags, in place: the tags' sums move to their rows from the last to the first, and the other rows are made from the first
 -- to the last.
-use Rattle.fips197.proofs.Kit.{◌≡◌, refl, sym, ap, ap₂, ◌∙◌, Bool, true, false, List, ◌++◌, ℕ, suc, ◌+◌, ◌-◌, ◌*◌, ◌≤◌, ◌<◌, arith, ltb, leb, length, get_or, take, drop, drop-length, drop-cons, lt-ltb, le-ltb, ltb-true, ltb-false, le-leb, lt-leb, leb-true, leb-false, eq-eqb, ne_eqb}
-use Rattle.blocks.specs.Block.{if◌then◌else◌, ◌⊕◌, slot, zeros}
+use Rattle.std.specs.Prelude.{◌≡◌, ◌++◌, ◌+◌, ◌-◌, ◌*◌, ◌≤◌, ◌<◌, if◌then◌else◌}
+use Rattle.fips197.proofs.Kit.{refl, sym, ap, ap₂, ◌∙◌, Bool, true, false, List, ℕ, suc, arith, ltb, leb, length, get_or, take, drop, drop-length, drop-cons, lt-ltb, le-ltb, ltb-true, ltb-false, le-leb, lt-leb, leb-true, leb-false, eq-eqb, ne_eqb}
+use Rattle.blocks.specs.Block.{◌⊕◌, slot, zeros}
 use Rattle.incidence.specs.Sum.{sum_of, expanded}
 use Rattle.incidence.specs.Family.{Family, Lawful}
 use Rattle.incidence.proofs.Sums.{sum_of_ext, expanded_ext, expanded-made, expanded-tagged}

@@ -1,7 +1,8 @@
 -- Loops that write sums one by one: those done are new, the others are as they were. A walk over the numbers that pass adds the value once
 -- to each of their sums.
-use Rattle.fips197.proofs.Kit.{◌≡◌, refl, sym, ap, ap₂, ◌∙◌, subst, Bool, true, false, ◌&&◌, List, ◌++◌, ℕ, ◌+◌, ◌-◌, ◌*◌, ◌≤◌, ◌<◌, arith, ltb, eqb, length, get_or, take, drop, lt-ltb, le-ltb, ltb-true, ltb-false, eqb-true, eqb-false}
-use Rattle.blocks.specs.Block.{if◌then◌else◌, ◌⊕◌, slot}
+use Rattle.std.specs.Prelude.{◌≡◌, ◌&&◌, ◌++◌, ◌+◌, ◌-◌, ◌*◌, ◌≤◌, ◌<◌, if◌then◌else◌}
+use Rattle.fips197.proofs.Kit.{refl, sym, ap, ap₂, ◌∙◌, subst, Bool, true, false, List, ℕ, arith, ltb, eqb, length, get_or, take, drop, lt-ltb, le-ltb, ltb-true, ltb-false, eqb-true, eqb-false}
+use Rattle.blocks.specs.Block.{◌⊕◌, slot}
 use Rattle.blocks.proofs.Xor.{⊕-length}
 use Rattle.blocks.proofs.Slots.{written, written_length, slot_here, slot_before, slot-after, drop-after, slot-length}
 use Rattle.incidence.specs.Count.{count_up_to, listed}

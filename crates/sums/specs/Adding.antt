@@ -1,6 +1,6 @@
 -- Arrays of sums (000, section 4.3: S[1] .. S[v]): sum i, counted from 1, is block i − 1 of the array. Assumes nothing.
-use Rattle.std.specs.Prelude.{◌≡◌, Bool, List, ℕ, ◌-◌, ◌*◌, ◌≤◌, eqb, length, drop}
-use Rattle.blocks.specs.Block.{if◌then◌else◌, ◌⊕◌, slot}
+use Rattle.std.specs.Prelude.{◌≡◌, Bool, List, ℕ, ◌-◌, ◌*◌, ◌≤◌, eqb, length, drop, if◌then◌else◌}
+use Rattle.blocks.specs.Block.{◌⊕◌, slot}
 use Rattle.incidence.specs.Family.{Family}
 
 -- sum i of an array

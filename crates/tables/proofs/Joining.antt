@@ -1,6 +1,7 @@
 -- What the tables hold for the four bytes of a column adds up to the mixed column, and so for a state. InvMixColumns is additive, so that
 -- it may be taken of the round keys beforehand.
-use Rattle.fips197.proofs.Kit.{◌≡◌, refl, sym, ap, ap₂, ◌∙◌, List, [], ◌∷◌, ◌++◌, map, ℕ, ◌+◌, ◌*◌, ◌/◌, ◌%◌, ◌<◌, zero-mul, one-mul, arith, lit<, length, get_or, bit_xor, xor_comm, xor_zero_r}
+use Rattle.std.specs.Prelude.{◌≡◌, ◌∷◌, ◌++◌, ◌+◌, ◌*◌, ◌/◌, ◌%◌, ◌<◌}
+use Rattle.fips197.proofs.Kit.{refl, sym, ap, ap₂, ◌∙◌, List, [], map, ℕ, zero-mul, one-mul, arith, lit<, length, get_or, bit_xor, xor_comm, xor_zero_r}
 use Rattle.fips197.specs.Block.{◌⊕◌}
 use Rattle.fips197.specs.Field.{product_by, ◌•◌}
 use Rattle.fips197.specs.Aes.{sbox, rot_word, mixed, inv_mixed, shift_rows, inv_shift_rows, columnwise, inv_mix_columns}

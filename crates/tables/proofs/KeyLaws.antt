@@ -1,5 +1,6 @@
 -- The words of the deciphering schedule: the loop that makes them, and the round keys that they are.
-use Rattle.fips197.proofs.Kit.{◌≡◌, refl, sym, ap, ◌∙◌, List, ◌++◌, ⊎_elim, ℕ, ◌+◌, ◌*◌, ◌<◌, ◌≤◌, eq-or-lt_of_le, arith, length, get_or, set, get_or-set_same, get_or-set_other, le-leb, lt-leb}
+use Rattle.std.specs.Prelude.{◌≡◌, ◌++◌, ◌+◌, ◌*◌, ◌<◌, ◌≤◌}
+use Rattle.fips197.proofs.Kit.{refl, sym, ap, ◌∙◌, List, ⊎_elim, ℕ, eq-or-lt_of_le, arith, length, get_or, set, get_or-set_same, get_or-set_other, le-leb, lt-leb}
 use Rattle.fips197.specs.Block.{◌⊕◌}
 use Rattle.fips197.specs.Aes.{word, round_key, inv_mixed, columnwise, inv_mix_columns, inv_sub_bytes, inv_shift_rows}
 use Rattle.fips197.specs.Words.{bytes_of, column}

@@ -1,5 +1,6 @@
 -- The rule of a table of rounds, proved at all of its 512 words by one computed test; one law serves both tables.
-use Rattle.fips197.proofs.Kit.{◌≡◌, ap, ap₂, ◌∙◌, Bool, List, ℕ, ◌+◌, ◌-◌, ◌*◌, ◌/◌, ◌%◌, ◌<◌, arith, T, eqb, eqb→eq, length, get_or}
+use Rattle.std.specs.Prelude.{◌≡◌, ◌+◌, ◌-◌, ◌*◌, ◌/◌, ◌%◌, ◌<◌}
+use Rattle.fips197.proofs.Kit.{ap, ap₂, ◌∙◌, Bool, List, ℕ, arith, T, eqb, eqb→eq, length, get_or}
 use Rattle.fips197.specs.Block.{Bytes, Tabulates}
 use Rattle.fips197.specs.Words.{bytes_of}
 use Rattle.fips197.proofs.Table.{at, every}

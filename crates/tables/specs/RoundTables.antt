@@ -1,7 +1,7 @@
 -- Document 02, request 2.8: tables of 256 words of 32 bits that join substitution and column mixing, and the schedule that deciphering
 -- with them needs. They are parts of the engine, not of AES: its calls are stated by FIPS 197's definitions. Assumes nothing.
-use Rattle.std.specs.Prelude.{◌≡◌, ◌&&◌, List, [], ◌∷◌, ℕ, ◌+◌, ◌-◌, ◌*◌, ◌%◌, ◌<◌, leb, get_or}
-use Rattle.fips197.specs.Block.{if◌then◌else◌, tabulate}
+use Rattle.std.specs.Prelude.{◌≡◌, ◌&&◌, List, [], ◌∷◌, ℕ, ◌+◌, ◌-◌, ◌*◌, ◌%◌, ◌<◌, leb, get_or, if◌then◌else◌}
+use Rattle.fips197.specs.Block.{tabulate}
 use Rattle.fips197.specs.Field.{◌•◌}
 use Rattle.fips197.specs.Aes.{word, sbox, inv_sbox, inv_mixed}
 use Rattle.fips197.specs.Words.{bytes_of, column}

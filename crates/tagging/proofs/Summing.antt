@@ -1,6 +1,7 @@
 -- A walk over items adds each value to the sums of its rows: after k items, the sums are those of the first k.
-use Rattle.fips197.proofs.Kit.{◌≡◌, refl, sym, ap, ap₂, ◌∙◌, subst, Bool, true, false, List, ◌∷◌, ◌++◌, ℕ, zero, suc, ◌+◌, ◌-◌, ◌*◌, ◌≤◌, ◌<◌, arith, add-one, length, take, drop, length-take, take-add, take-append-drop}
-use Rattle.blocks.specs.Block.{if◌then◌else◌, ◌⊕◌, zeros, slot, list_of}
+use Rattle.std.specs.Prelude.{◌≡◌, ◌∷◌, ◌++◌, ◌+◌, ◌-◌, ◌*◌, ◌≤◌, ◌<◌, if◌then◌else◌}
+use Rattle.fips197.proofs.Kit.{refl, sym, ap, ap₂, ◌∙◌, subst, Bool, true, false, List, ℕ, zero, suc, arith, add-one, length, take, drop, length-take, take-add, take-append-drop}
+use Rattle.blocks.specs.Block.{◌⊕◌, zeros, slot, list_of}
 use Rattle.blocks.proofs.Xor.{⊕_comm, ⊕_assoc, ⊕-zeros}
 use Rattle.cipher.specs.Cmac.{mac_with, ready}
 use Rattle.cipher.specs.declared.cmac.MacKey.{MacKey}

@@ -1,5 +1,6 @@
 -- Header, tags and MAC written one behind the other are the tag file.
-use Rattle.fips197.proofs.Kit.{◌≡◌, sym, ap, ap₂, ◌∙◌, List, ◌++◌, ℕ, suc, ◌+◌, ◌-◌, ◌*◌, ◌≤◌, arith, length, take, drop, length-append, length-take, length-drop, take_at}
+use Rattle.std.specs.Prelude.{◌≡◌, ◌++◌, ◌+◌, ◌-◌, ◌*◌, ◌≤◌}
+use Rattle.fips197.proofs.Kit.{sym, ap, ap₂, ◌∙◌, List, ℕ, suc, arith, length, take, drop, length-append, length-take, length-drop, take_at}
 use Rattle.blocks.specs.Block.{slot, list_of}
 use Rattle.cipher.specs.Aes.{encipher}
 use Rattle.cipher.specs.Cmac.{cmac}

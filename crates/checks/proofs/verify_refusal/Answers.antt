@@ -1,5 +1,6 @@
 -- The first of 1, 3, 5, 6, 20, 21 and 25 that applies (Passing).
-use Rattle.fips197.proofs.Kit.{◌≡◌, [], ◌∷◌, length, rules}
+use Rattle.std.specs.Prelude.{◌≡◌, ◌∷◌}
+use Rattle.fips197.proofs.Kit.{[], length, rules}
 use Rattle.files.specs.Refusals.{first}
 use Rattle.files.specs.Message.{refuse3, refuse5}
 use Rattle.files.specs.TagFile.{refuse6}

@@ -1,6 +1,7 @@
 -- Each array holds what the next call asks; the steps of the quotient are the pattern (Deriving). In the answers d, e, g and f are the
 -- places behind the calls that write D(x), x^m + 1, their divisor and x^m + 1 again, and s is the start.
-use Rattle.fips197.proofs.Kit.{ap, ◌∙◌, List, ◌++◌, ℕ, suc, arith, length, drop}
+use Rattle.std.specs.Prelude.{◌++◌}
+use Rattle.fips197.proofs.Kit.{ap, ◌∙◌, List, ℕ, suc, arith, length, drop}
 use Rattle.polynomials.proofs.Dividing.{zeros-long}
 use Rattle.cyclic.proofs.Deriving.{zeros-modulus, steps_pattern}
 use Rattle.cyclic.proofs.derive.Goals as goal

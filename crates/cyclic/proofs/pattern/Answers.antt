@@ -1,5 +1,6 @@
 -- Where the call refuses, nothing is done (Deriving); else the fronts of the four arrays are m + 1 zeros.
-use Rattle.fips197.proofs.Kit.{◌≡◌, true, arith, length, lt-ltb, le-ltb}
+use Rattle.std.specs.Prelude.{◌≡◌}
+use Rattle.fips197.proofs.Kit.{true, arith, length, lt-ltb, le-ltb}
 use Rattle.cyclic.specs.Deriving.{refuses}
 use Rattle.cyclic.proofs.Deriving.{lent_zeros, refuses-none, refuses-many, refuses-short, refuses-not, not-derived, none_written, is_derived, is_written}
 use Rattle.cyclic.proofs.pattern.Goals as goal

@@ -1,4 +1,5 @@
-use Rattle.fips197.proofs.Kit.{◌≡◌, ◌≤◌, length, drop}
+use Rattle.std.specs.Prelude.{◌≡◌, ◌≤◌}
+use Rattle.fips197.proofs.Kit.{length, drop}
 use Rattle.cyclic.specs.CyclicCode.{of_list}
 use Rattle.cyclic.proofs.put_list.Given as goal
 

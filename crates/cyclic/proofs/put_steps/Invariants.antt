@@ -1,4 +1,5 @@
-use Rattle.fips197.proofs.Kit.{◌≡◌, ◌-◌, ◌≤◌, length}
+use Rattle.std.specs.Prelude.{◌≡◌, ◌-◌, ◌≤◌}
+use Rattle.fips197.proofs.Kit.{length}
 use Rattle.cyclic.proofs.Steps.{Front, back}
 use Rattle.cyclic.proofs.put_steps.Given as goal
 

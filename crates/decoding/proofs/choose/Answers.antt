@@ -1,5 +1,6 @@
 -- By its tests (incidence Reports).
-use Rattle.fips197.proofs.Kit.{sym, ◌∙◌, ◌<◌, arith}
+use Rattle.std.specs.Prelude.{◌<◌}
+use Rattle.fips197.proofs.Kit.{sym, ◌∙◌, arith}
 use Rattle.incidence.proofs.Reports.{answer-intact, answer-named, answer-beyond}
 use Rattle.decoding.proofs.choose.Goals as goal
 use Rattle.decoding.proofs.choose.Goals.{else-names-ge1-via-then-names-ge1+then-names-limit+else-not-find_unexplained, else-names-ge1-via-then-names-ge1+else-names-limit, else-names-ge1-via-else-names-ge1}

@@ -1,5 +1,6 @@
 -- Each turn clears one item of the row (Picking).
-use Rattle.fips197.proofs.Kit.{◌≤◌, arith}
+use Rattle.std.specs.Prelude.{◌≤◌}
+use Rattle.fips197.proofs.Kit.{arith}
 use Rattle.incidence.specs.Family.{items_of}
 use Rattle.sizes.specs.Sizes.{family_of}
 use Rattle.sizes.proofs.Laws.{item_list_few, written_at}

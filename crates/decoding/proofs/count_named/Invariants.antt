@@ -1,4 +1,4 @@
-use Rattle.fips197.proofs.Kit.{◌≡◌, ◌-◌, ◌≤◌}
+use Rattle.std.specs.Prelude.{◌≡◌, ◌-◌, ◌≤◌}
 use Rattle.incidence.specs.Count.{count_up_to}
 use Rattle.decoding.specs.Decoding.{is_marked}
 use Rattle.decoding.proofs.count_named.Given as goal

@@ -1,5 +1,6 @@
 -- Every row agrees, or the rows are filled in and decoded (Agreeing, Marks).
-use Rattle.fips197.proofs.Kit.{sym, ap, ◌∙◌, List, ℕ, ◌++◌, arith, drop}
+use Rattle.std.specs.Prelude.{◌++◌}
+use Rattle.fips197.proofs.Kit.{sym, ap, ◌∙◌, List, ℕ, arith, drop}
 use Rattle.blocks.specs.Block.{all_zero}
 use Rattle.incidence.proofs.Differences.{none-disagree, answer_agreeing, none_counted}
 use Rattle.incidence.proofs.Rowwise.{number_named_ext, disagreeing_ext, answer_ext}

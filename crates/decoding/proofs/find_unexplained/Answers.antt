@@ -1,5 +1,6 @@
 -- Each turn tests one row (Picking).
-use Rattle.fips197.proofs.Kit.{◌≡◌, refl, sym, ap, ◌∙◌, ◌+◌, arith}
+use Rattle.std.specs.Prelude.{◌≡◌, ◌+◌}
+use Rattle.fips197.proofs.Kit.{refl, sym, ap, ◌∙◌, arith}
 use Rattle.incidence.specs.Count.{any_up_to}
 use Rattle.incidence.proofs.Counting.{any_some}
 use Rattle.sizes.specs.Sizes.{family_of}

@@ -1,4 +1,5 @@
-use Rattle.fips197.proofs.Kit.{◌≡◌, false, ◌-◌, ◌≤◌}
+use Rattle.std.specs.Prelude.{◌≡◌, ◌-◌, ◌≤◌}
+use Rattle.fips197.proofs.Kit.{false}
 use Rattle.incidence.specs.Count.{any_up_to}
 use Rattle.sizes.specs.Sizes.{family_of}
 use Rattle.decoding.specs.Decoding.{agrees_in, unexplained_in}

@@ -1,4 +1,4 @@
-use Rattle.fips197.proofs.Kit.{◌-◌, ◌≤◌}
+use Rattle.std.specs.Prelude.{◌-◌, ◌≤◌}
 use Rattle.incidence.specs.Family.{items_of}
 use Rattle.sizes.specs.Sizes.{family_of}
 use Rattle.decoding.proofs.Picking.{Bare}

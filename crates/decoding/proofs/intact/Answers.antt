@@ -1,5 +1,6 @@
 -- All marks are 0 (Marks).
-use Rattle.fips197.proofs.Kit.{refl, ap, ◌∙◌, false, List, ℕ, ◌++◌, drop}
+use Rattle.std.specs.Prelude.{◌++◌}
+use Rattle.fips197.proofs.Kit.{refl, ap, ◌∙◌, false, List, ℕ, drop}
 use Rattle.decoding.proofs.Marks.{marked-list, marks-none}
 use Rattle.decoding.proofs.intact.Goals as goal
 

@@ -1,5 +1,6 @@
 -- By its two tests.
-use Rattle.fips197.proofs.Kit.{◌∙◌, sym, ap, ap₂, Bool, not, ◌&&◌}
+use Rattle.std.specs.Prelude.{◌&&◌}
+use Rattle.fips197.proofs.Kit.{◌∙◌, sym, ap, ap₂, Bool, not}
 use Rattle.incidence.specs.Family.{holds_one}
 use Rattle.sizes.specs.Sizes.{family_of}
 use Rattle.decoding.specs.Decoding.{is_marked, unexplained_in}

@@ -1,4 +1,4 @@
-use Rattle.fips197.proofs.Kit.{◌-◌, ◌≤◌}
+use Rattle.std.specs.Prelude.{◌-◌, ◌≤◌}
 use Rattle.decoding.specs.Decoding.{Marked}
 use Rattle.decoding.proofs.mark_all.Given as goal
 

@@ -1,5 +1,6 @@
 -- Each turn stores one member (cipher's Loop).
-use Rattle.fips197.proofs.Kit.{refl, ◌<◌, arith, length, rules}
+use Rattle.std.specs.Prelude.{◌<◌}
+use Rattle.fips197.proofs.Kit.{refl, arith, length, rules}
 use Rattle.blocks.proofs.Loop.{part_turn, part_front}
 use Rattle.plane.specs.Table.{differences}
 use Rattle.plane.proofs.Lookup.{differences_few}

@@ -1,4 +1,5 @@
-use Rattle.fips197.proofs.Kit.{◌≡◌, ◌-◌, ◌≤◌, length}
+use Rattle.std.specs.Prelude.{◌≡◌, ◌-◌, ◌≤◌}
+use Rattle.fips197.proofs.Kit.{length}
 use Rattle.blocks.proofs.Loop.{part}
 use Rattle.plane.specs.Table.{differences}
 use Rattle.derivation.proofs.copy_differences.Given as goal

@@ -1,5 +1,6 @@
 -- The lines derived are those in use (Printing).
-use Rattle.fips197.proofs.Kit.{◌≡◌, length, rules}
+use Rattle.std.specs.Prelude.{◌≡◌}
+use Rattle.fips197.proofs.Kit.{length, rules}
 use Rattle.derivation.proofs.Printing.{all_derived, all_in_use, all_counts}
 use Rattle.derivation.proofs.print.Goals as goal
 

@@ -1,5 +1,6 @@
 -- Each turn puts one size's line behind the others (Printing).
-use Rattle.fips197.proofs.Kit.{◌-◌, arith, length}
+use Rattle.std.specs.Prelude.{◌-◌}
+use Rattle.fips197.proofs.Kit.{arith, length}
 use Rattle.printing.proofs.Putting.{put_none, put_as, two₂, two}
 use Rattle.derivation.specs.Derived.{derived}
 use Rattle.derivation.specs.Lines.{pattern_line, pattern_lines}

@@ -1,4 +1,4 @@
-use Rattle.fips197.proofs.Kit.{◌-◌, ◌≤◌}
+use Rattle.std.specs.Prelude.{◌-◌, ◌≤◌}
 use Rattle.printing.proofs.Putting.{Put}
 use Rattle.derivation.specs.Derived.{derived}
 use Rattle.derivation.specs.Lines.{pattern_lines}

@@ -1,5 +1,6 @@
 -- Each turn puts one step behind those that stand (printing's Putting, Words).
-use Rattle.fips197.proofs.Kit.{◌≡◌, sym, ap, ℕ, arith, get_or, take}
+use Rattle.std.specs.Prelude.{◌≡◌}
+use Rattle.fips197.proofs.Kit.{sym, ap, ℕ, arith, get_or, take}
 use Rattle.printing.specs.Text.{labelled}
 use Rattle.printing.proofs.Putting.{put_none, put_as, put_size, two₂, two}
 use Rattle.derivation.specs.Lines.{words}

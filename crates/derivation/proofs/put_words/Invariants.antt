@@ -1,4 +1,5 @@
-use Rattle.fips197.proofs.Kit.{◌-◌, ◌≤◌, take}
+use Rattle.std.specs.Prelude.{◌-◌, ◌≤◌}
+use Rattle.fips197.proofs.Kit.{take}
 use Rattle.printing.proofs.Putting.{Put}
 use Rattle.derivation.specs.Lines.{words}
 use Rattle.derivation.proofs.put_words.Given as goal

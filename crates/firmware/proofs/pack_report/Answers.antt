@@ -1,5 +1,6 @@
 -- Refused, or answer and numbers (Packing).
-use Rattle.fips197.proofs.Kit.{sym, ap, ◌∙◌, ℕ, ◌+◌, ◌*◌, ◌%◌, arith}
+use Rattle.std.specs.Prelude.{◌+◌, ◌*◌, ◌%◌}
+use Rattle.fips197.proofs.Kit.{sym, ap, ◌∙◌, ℕ, arith}
 use Rattle.firmware.specs.Packed.{number_in}
 use Rattle.firmware.proofs.Packing.{number_back, report_done, report_refused, ordinal_small}
 use Rattle.firmware.proofs.pack_report.Goals as goal

@@ -1,5 +1,6 @@
 -- Refused, yes or no (Packing).
-use Rattle.fips197.proofs.Kit.{sym, ap, ◌∙◌, Bool, ◌*◌}
+use Rattle.std.specs.Prelude.{◌*◌}
+use Rattle.fips197.proofs.Kit.{sym, ap, ◌∙◌, Bool}
 use Rattle.incidence.specs.Count.{indicator}
 use Rattle.firmware.proofs.Packing.{yes_done, yes_refused}
 use Rattle.firmware.proofs.pack_verify.Goals as goal

@@ -1,5 +1,6 @@
 -- Each turn adds the next mask to one block; those before it stay, and those behind it are still as they were (Slots).
-use Rattle.fips197.proofs.Kit.{◌≡◌, refl, sym, ap, ◌∙◌, suc, arith, add-one}
+use Rattle.std.specs.Prelude.{◌≡◌}
+use Rattle.fips197.proofs.Kit.{refl, sym, ap, ◌∙◌, suc, arith, add-one}
 use Rattle.blocks.specs.Double.{double}
 use Rattle.blocks.proofs.Slots.{front-first, front_done}
 use Rattle.keyed.specs.Keyed.{doubled}

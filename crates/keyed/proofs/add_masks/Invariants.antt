@@ -1,4 +1,5 @@
-use Rattle.fips197.proofs.Kit.{◌≡◌, suc, ◌-◌, ◌≤◌, length}
+use Rattle.std.specs.Prelude.{◌≡◌, ◌-◌, ◌≤◌}
+use Rattle.fips197.proofs.Kit.{suc, length}
 use Rattle.blocks.specs.Block.{◌⊕◌, slot}
 use Rattle.blocks.proofs.Slots.{Front}
 use Rattle.keyed.specs.Keyed.{doubled}

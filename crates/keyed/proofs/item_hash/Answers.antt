@@ -1,5 +1,6 @@
 -- Zeros for a vacant place; any other item is laid out behind its numbers.
-use Rattle.fips197.proofs.Kit.{◌≡◌, refl, sym, ap, ◌∙◌, ◌++◌, ◌+◌, arith, length, take, take_at, rules}
+use Rattle.std.specs.Prelude.{◌≡◌, ◌++◌, ◌+◌}
+use Rattle.fips197.proofs.Kit.{refl, sym, ap, ◌∙◌, arith, length, take, take_at, rules}
 use Rattle.blocks.specs.Number.{big_endian}
 use Rattle.blocks.proofs.Loop.{front_kept}
 use Rattle.cipher.specs.Cmac.{mac_with}

@@ -1,5 +1,6 @@
 -- The numbers at the front, and the item behind them (blocks' Loop).
-use Rattle.fips197.proofs.Kit.{◌≡◌, ap, ◌∙◌, List, ◌++◌, ℕ, ◌+◌, arith, length, drop, rules}
+use Rattle.std.specs.Prelude.{◌≡◌, ◌++◌, ◌+◌}
+use Rattle.fips197.proofs.Kit.{ap, ◌∙◌, List, ℕ, arith, length, drop, rules}
 use Rattle.blocks.proofs.Loop.{front_kept, put_behind}
 use Rattle.blocks.proofs.Numbers.{big_endian_pair}
 use Rattle.keyed.proofs.put_numbered.Goals as goal

@@ -1,5 +1,6 @@
 -- By its two tests.
-use Rattle.fips197.proofs.Kit.{sym, ap, ◌∙◌, Bool, ◌&&◌, eqb, length, le-leb, lt-leb}
+use Rattle.std.specs.Prelude.{◌&&◌}
+use Rattle.fips197.proofs.Kit.{sym, ap, ◌∙◌, Bool, eqb, length, le-leb, lt-leb}
 use Rattle.keyed.specs.Keyed.{vacant}
 use Rattle.keyed.proofs.vacant.Goals as goal
 

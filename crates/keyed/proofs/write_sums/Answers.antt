@@ -1,5 +1,6 @@
 -- Copied, masked, deciphered and masked again (KeyedLaws).
-use Rattle.fips197.proofs.Kit.{◌≡◌, length, rules}
+use Rattle.std.specs.Prelude.{◌≡◌}
+use Rattle.fips197.proofs.Kit.{length, rules}
 use Rattle.keyed.proofs.KeyedLaws.{sums-code}
 use Rattle.keyed.proofs.write_sums.Goals as goal
 

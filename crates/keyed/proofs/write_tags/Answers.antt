@@ -1,5 +1,6 @@
 -- Copied, masked, enciphered and masked again (KeyedLaws).
-use Rattle.fips197.proofs.Kit.{◌≡◌, length, rules}
+use Rattle.std.specs.Prelude.{◌≡◌}
+use Rattle.fips197.proofs.Kit.{length, rules}
 use Rattle.keyed.proofs.KeyedLaws.{tags-code}
 use Rattle.keyed.proofs.write_tags.Goals as goal
 

@@ -1,5 +1,6 @@
 -- 9, 7 and what is refused of the file, in this order (Passing).
-use Rattle.fips197.proofs.Kit.{◌≡◌, refl, ap, ◌∙◌, [], ◌∷◌, ℕ, ◌+◌, ◌-◌, ◌≤◌, arith, leb, ltb, length, take}
+use Rattle.std.specs.Prelude.{◌≡◌, ◌∷◌, ◌+◌, ◌-◌, ◌≤◌}
+use Rattle.fips197.proofs.Kit.{refl, ap, ◌∙◌, [], ℕ, arith, leb, ltb, length, take}
 use Rattle.files.specs.Refusals.{unless, first}
 use Rattle.files.specs.Message.{item_count, refuse3}
 use Rattle.files.proofs.Passing.{stop, run2, run_end, listed, passes2, same_first, same_cons, same_nil}

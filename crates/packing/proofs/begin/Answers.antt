@@ -1,5 +1,6 @@
 -- The file without items where neither stamp nor room is refused, else all as it was (Refusing).
-use Rattle.fips197.proofs.Kit.{◌≡◌, ap, ◌∙◌, List, [], ◌++◌, ℕ, length, drop}
+use Rattle.std.specs.Prelude.{◌≡◌, ◌++◌}
+use Rattle.fips197.proofs.Kit.{ap, ◌∙◌, List, [], ℕ, length, drop}
 use Rattle.files.specs.Message.{items_at}
 use Rattle.files.specs.Arguments.{refuse7}
 use Rattle.files.proofs.Passing.{given, kept, same_first, same_cons, same_nil}

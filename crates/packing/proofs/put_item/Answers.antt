@@ -1,5 +1,6 @@
 -- Three puts, one after another (Writing).
-use Rattle.fips197.proofs.Kit.{◌≡◌, ap, ◌∙◌, ℕ, ◌+◌, arith, take}
+use Rattle.std.specs.Prelude.{◌≡◌, ◌+◌}
+use Rattle.fips197.proofs.Kit.{ap, ◌∙◌, ℕ, arith, take}
 use Rattle.blocks.specs.Number.{big_endian}
 use Rattle.stamp.specs.Front.{front_size, version_of}
 use Rattle.packing.proofs.Writing.{count_read, count_at, version-at, place_read, place-high, item_put}

@@ -1,5 +1,6 @@
 -- Version 1 by its number, a later one by itself (Refusing).
-use Rattle.fips197.proofs.Kit.{◌≡◌, sym, ap, ◌∙◌, Bool, ◌&&◌, leb, le-leb, lt-leb, rules}
+use Rattle.std.specs.Prelude.{◌≡◌, ◌&&◌}
+use Rattle.fips197.proofs.Kit.{sym, ap, ◌∙◌, Bool, leb, le-leb, lt-leb, rules}
 use Rattle.incidence.specs.Count.{inside}
 use Rattle.stamp.specs.Front.{stamp_fits}
 use Rattle.files.specs.Message.{newest_message}

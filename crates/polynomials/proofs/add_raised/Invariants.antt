@@ -1,4 +1,5 @@
-use Rattle.fips197.proofs.Kit.{◌≡◌, ◌-◌, ◌≤◌, length}
+use Rattle.std.specs.Prelude.{◌≡◌, ◌-◌, ◌≤◌}
+use Rattle.fips197.proofs.Kit.{length}
 use Rattle.blocks.specs.Block.{◌⊕◌}
 use Rattle.blocks.proofs.Loop.{part}
 use Rattle.polynomials.specs.Polynomial.{raised}

@@ -1,4 +1,5 @@
-use Rattle.fips197.proofs.Kit.{◌≡◌, ◌-◌, ◌≤◌, length}
+use Rattle.std.specs.Prelude.{◌≡◌, ◌-◌, ◌≤◌}
+use Rattle.fips197.proofs.Kit.{length}
 use Rattle.polynomials.specs.Polynomial.{quotient_in, quotient}
 use Rattle.polynomials.proofs.divide.Given as goal
 

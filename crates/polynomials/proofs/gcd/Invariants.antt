@@ -1,4 +1,5 @@
-use Rattle.fips197.proofs.Kit.{◌≡◌, ◌-◌, ◌≤◌, length}
+use Rattle.std.specs.Prelude.{◌≡◌, ◌-◌, ◌≤◌}
+use Rattle.fips197.proofs.Kit.{length}
 use Rattle.polynomials.specs.Polynomial.{gcd_in, gcd}
 use Rattle.polynomials.proofs.gcd.Given as goal
 

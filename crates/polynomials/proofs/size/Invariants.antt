@@ -1,4 +1,5 @@
-use Rattle.fips197.proofs.Kit.{◌≡◌, ◌-◌, ◌≤◌, length, take}
+use Rattle.std.specs.Prelude.{◌≡◌, ◌-◌, ◌≤◌}
+use Rattle.fips197.proofs.Kit.{length, take}
 use Rattle.polynomials.specs.Polynomial.{poly_size}
 use Rattle.polynomials.proofs.size.Given as goal
 

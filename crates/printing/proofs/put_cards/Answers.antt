@@ -1,5 +1,6 @@
 -- Each turn puts one card's line behind those that stand (Putting, CardLines).
-use Rattle.fips197.proofs.Kit.{◌≡◌, sym, ap, ◌+◌, ◌*◌, arith, length, get_or, rules}
+use Rattle.std.specs.Prelude.{◌≡◌, ◌+◌, ◌*◌}
+use Rattle.fips197.proofs.Kit.{sym, ap, arith, length, get_or, rules}
 use Rattle.printing.specs.Lines.{card_part, card_lines}
 use Rattle.printing.proofs.Putting.{room_for, put_short, put_none, put_as, put_size, two₂, two}
 use Rattle.printing.proofs.CardLines.{lines_next, lines_fewer, lines_room}

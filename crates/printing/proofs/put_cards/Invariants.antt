@@ -1,4 +1,4 @@
-use Rattle.fips197.proofs.Kit.{◌-◌, ◌≤◌}
+use Rattle.std.specs.Prelude.{◌-◌, ◌≤◌}
 use Rattle.printing.specs.Lines.{card_lines}
 use Rattle.printing.proofs.Putting.{Put}
 use Rattle.printing.proofs.put_cards.Given as goal

@@ -1,5 +1,6 @@
 -- The digits are written from the last to the first: those before the ones that stand are the digits of what rests (Decimals).
-use Rattle.fips197.proofs.Kit.{refl, sym, ◌∙◌, ap, subst, List, ℕ, ◌+◌, ◌≤◌, arith, length, replicate, rules}
+use Rattle.std.specs.Prelude.{◌+◌, ◌≤◌}
+use Rattle.fips197.proofs.Kit.{refl, sym, ◌∙◌, ap, subst, List, ℕ, arith, length, replicate, rules}
 use Rattle.printing.specs.Text.{over}
 use Rattle.printing.proofs.Decimals.{digits-first, digits-next, digits_done, tenth_low, tenth_less}
 use Rattle.printing.proofs.put_decimal.Goals as goal

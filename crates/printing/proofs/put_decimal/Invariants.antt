@@ -1,4 +1,5 @@
-use Rattle.fips197.proofs.Kit.{◌≡◌, ◌++◌, ◌^◌, ◌≤◌, ◌<◌, length, drop}
+use Rattle.std.specs.Prelude.{◌≡◌, ◌++◌, ◌^◌, ◌≤◌, ◌<◌}
+use Rattle.fips197.proofs.Kit.{length, drop}
 use Rattle.printing.specs.Text.{decimal}
 use Rattle.printing.proofs.Decimals.{before}
 use Rattle.printing.proofs.put_decimal.Given as goal

@@ -1,5 +1,6 @@
 -- Each test settles it (Reading).
-use Rattle.fips197.proofs.Kit.{ap, ◌∙◌, ℕ, ◌+◌, arith, leb, length}
+use Rattle.std.specs.Prelude.{◌+◌}
+use Rattle.fips197.proofs.Kit.{ap, ◌∙◌, ℕ, arith, leb, length}
 use Rattle.reporting.specs.Printed.{first_size}
 use Rattle.reporting.proofs.Reading.{not-long, not_short, if_whole}
 use Rattle.reporting.proofs.is_readable.Goals as goal

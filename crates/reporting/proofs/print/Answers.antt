@@ -1,5 +1,6 @@
 -- Unreadable, or the text of both messages (Texts); the parts of the input are those that the definitions name.
-use Rattle.fips197.proofs.Kit.{◌≡◌, sym, ap, ◌∙◌, true, List, ℕ, zero-add, arith, length, rules}
+use Rattle.std.specs.Prelude.{◌≡◌}
+use Rattle.fips197.proofs.Kit.{sym, ap, ◌∙◌, true, List, ℕ, zero-add, arith, length, rules}
 use Rattle.printing.specs.Text.{ascii, over}
 use Rattle.reporting.specs.Printed.{first_size, readable, printed}
 use Rattle.printing.proofs.Putting.{over-front, put_as, put_front, put_counts}

@@ -1,5 +1,6 @@
 -- Refused or done, what is put is the text (Texts).
-use Rattle.fips197.proofs.Kit.{◌≡◌, ap, ◌∙◌, List, ℕ, arith, length, rules}
+use Rattle.std.specs.Prelude.{◌≡◌}
+use Rattle.fips197.proofs.Kit.{ap, ◌∙◌, List, ℕ, arith, length, rules}
 use Rattle.printing.specs.Text.{over}
 use Rattle.printing.proofs.Putting.{put_as, put_front}
 use Rattle.checks.proofs.Checking.{reportable}

@@ -1,5 +1,6 @@
 -- Refused, or read: the checks passed, and the keys are those handed over.
-use Rattle.fips197.proofs.Kit.{◌≡◌, subst, List, ℕ, arith, rules}
+use Rattle.std.specs.Prelude.{◌≡◌}
+use Rattle.fips197.proofs.Kit.{subst, List, ℕ, arith, rules}
 use Rattle.sizes.specs.Sizes.{family_of}
 use Rattle.files.specs.TagFile.{code_of}
 use Rattle.sums.specs.Adding.{Holds}

@@ -1,5 +1,6 @@
 -- The size code and the count are those of the files.
-use Rattle.fips197.proofs.Kit.{◌≡◌, ap, ap₂, ◌∙◌, ◌++◌, ℕ, arith, drop}
+use Rattle.std.specs.Prelude.{◌≡◌, ◌++◌}
+use Rattle.fips197.proofs.Kit.{ap, ap₂, ◌∙◌, ℕ, arith, drop}
 use Rattle.incidence.specs.Report.{named, number_named, disagreeing, answer}
 use Rattle.sizes.specs.Sizes.{known, family_of}
 use Rattle.files.specs.declared.tagfile.Head.{Head}

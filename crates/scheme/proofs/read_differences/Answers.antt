@@ -1,5 +1,6 @@
 -- The sums of the file's tags, and the message's added (Filing).
-use Rattle.fips197.proofs.Kit.{◌≡◌, ap, ◌∙◌, ℕ, arith}
+use Rattle.std.specs.Prelude.{◌≡◌}
+use Rattle.fips197.proofs.Kit.{ap, ◌∙◌, ℕ, arith}
 use Rattle.sizes.specs.Sizes.{known, family_of}
 use Rattle.stamp.specs.Front.{version_of, stamp_of}
 use Rattle.files.specs.declared.tagfile.Head.{Head}

@@ -1,5 +1,6 @@
 -- The tags deciphered one after another (Filing).
-use Rattle.fips197.proofs.Kit.{◌≡◌, sym, ◌∙◌, ap, ℕ, ◌*◌, arith, length, rules}
+use Rattle.std.specs.Prelude.{◌≡◌, ◌*◌}
+use Rattle.fips197.proofs.Kit.{sym, ◌∙◌, ap, ℕ, arith, length, rules}
 use Rattle.sizes.specs.Sizes.{family_of}
 use Rattle.files.specs.declared.tagfile.Head.{Head}
 use Rattle.files.specs.TagFile.{code_of, head_of}

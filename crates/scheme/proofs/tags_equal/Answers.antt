@@ -1,5 +1,6 @@
 -- The tags of the sums, compared with those of the file (Filing).
-use Rattle.fips197.proofs.Kit.{◌≡◌, refl, ap, ap₂, ◌∙◌, ◌*◌, ◌≤◌, arith, length}
+use Rattle.std.specs.Prelude.{◌≡◌, ◌*◌, ◌≤◌}
+use Rattle.fips197.proofs.Kit.{refl, ap, ap₂, ◌∙◌, arith, length}
 use Rattle.blocks.specs.Block.{same, zeros}
 use Rattle.sizes.specs.Sizes.{known, family_of}
 use Rattle.sizes.proofs.Laws.{tags_few}

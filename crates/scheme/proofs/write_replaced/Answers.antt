@@ -1,5 +1,6 @@
 -- The sums of the tags, both hashes added, then the file of those sums (Filing).
-use Rattle.fips197.proofs.Kit.{◌≡◌, refl, ap, ◌∙◌, true, ℕ, ◌*◌, ◌≤◌, arith, rules}
+use Rattle.std.specs.Prelude.{◌≡◌, ◌*◌, ◌≤◌}
+use Rattle.fips197.proofs.Kit.{refl, ap, ◌∙◌, true, ℕ, arith, rules}
 use Rattle.sizes.specs.Sizes.{known, family_of}
 use Rattle.sizes.proofs.Laws.{tags_few}
 use Rattle.files.specs.declared.tagfile.Head.{Head}

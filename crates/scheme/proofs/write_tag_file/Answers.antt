@@ -1,5 +1,6 @@
 -- The sums of the tags, then the file of those sums (Filing).
-use Rattle.fips197.proofs.Kit.{◌≡◌, ap, ◌∙◌, true, ℕ, ◌*◌, ◌≤◌, arith}
+use Rattle.std.specs.Prelude.{◌≡◌, ◌*◌, ◌≤◌}
+use Rattle.fips197.proofs.Kit.{ap, ◌∙◌, true, ℕ, arith}
 use Rattle.sizes.specs.Sizes.{known, family_of}
 use Rattle.sizes.proofs.Laws.{tags_few}
 use Rattle.files.specs.declared.tagfile.Head.{Head}

@@ -1,6 +1,7 @@
 -- Each test settles it (Fronts).
+use Rattle.std.specs.Prelude.{◌≡◌, ◌+◌}
 use lib.Pointwise.{bytes_decides}
-use Rattle.fips197.proofs.Kit.{not-true, not-false, ◌≡◌, sym, ap, ◌∙◌, ◌+◌, arith, le-leb, lt-leb}
+use Rattle.fips197.proofs.Kit.{not-true, not-false, sym, ap, ◌∙◌, arith, le-leb, lt-leb}
 use Rattle.incidence.specs.Count.{inside}
 use Rattle.stamp.specs.Front.{front_size, version_of, begins_as}
 use Rattle.stamp.proofs.Fronts.{front_low, begins_as_short, begins_as_other, begins_as_yes}

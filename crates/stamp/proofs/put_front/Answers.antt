@@ -1,5 +1,6 @@
 -- Letters and version, and the number behind them where there is one (Fronts).
-use Rattle.fips197.proofs.Kit.{◌≤◌, arith, length, rules}
+use Rattle.std.specs.Prelude.{◌≤◌}
+use Rattle.fips197.proofs.Kit.{arith, length, rules}
 use Rattle.stamp.specs.Front.{front_size}
 use Rattle.stamp.proofs.Fronts.{size_later, front_low, put_length, front-first, front_later}
 use Rattle.stamp.proofs.put_front.Goals as goal

@@ -1,5 +1,6 @@
 -- Four stores, the number as to_be32 gives it.
-use Rattle.fips197.proofs.Kit.{◌∙◌, [], ◌∷◌, ◌++◌, append_assoc, arith, get_or, take, drop, length-set, sets-eq}
+use Rattle.std.specs.Prelude.{◌∷◌, ◌++◌}
+use Rattle.fips197.proofs.Kit.{◌∙◌, [], append_assoc, arith, get_or, take, drop, length-set, sets-eq}
 use Rattle.blocks.specs.Number.{big_endian}
 use Rattle.stamp.proofs.put_number.Goals as goal
 

@@ -1,5 +1,6 @@
 -- Five stores, the version as to_be16 gives it.
-use Rattle.fips197.proofs.Kit.{◌≡◌, ap, ◌∙◌, [], ◌∷◌, ◌++◌, List, ℕ, arith, length, get_or, drop, length-set, sets-eq, rules}
+use Rattle.std.specs.Prelude.{◌≡◌, ◌∷◌, ◌++◌}
+use Rattle.fips197.proofs.Kit.{ap, ◌∙◌, [], List, ℕ, arith, length, get_or, drop, length-set, sets-eq, rules}
 use Rattle.blocks.specs.Number.{big_endian}
 use Rattle.stamp.proofs.Fronts.{three_are}
 use Rattle.stamp.proofs.put_version.Goals as goal

@@ -1,5 +1,6 @@
 -- Each turn adds the value to one tag's sum (Walking).
-use Rattle.fips197.proofs.Kit.{◌≡◌, ◌≤◌, arith, length, get_or, rules}
+use Rattle.std.specs.Prelude.{◌≡◌, ◌≤◌}
+use Rattle.fips197.proofs.Kit.{arith, length, get_or, rules}
 use Rattle.incidence.specs.Family.{Family, tags_of}
 use Rattle.incidence.proofs.Listing.{Member}
 use Rattle.sizes.specs.Sizes.{family_of}

@@ -1,4 +1,4 @@
-use Rattle.fips197.proofs.Kit.{◌-◌}
+use Rattle.std.specs.Prelude.{◌-◌}
 use Rattle.sizes.specs.Sizes.{family_of}
 use Rattle.sums.specs.Adding.{Added}
 use Rattle.sums.proofs.Walking.{passed}

@@ -1,5 +1,6 @@
 -- Each turn makes one row, if it has no tag, of rows before it (Filling).
-use Rattle.fips197.proofs.Kit.{◌≡◌, refl, sym, ◌∙◌, ◌+◌, ◌≤◌, arith, length, rules}
+use Rattle.std.specs.Prelude.{◌≡◌, ◌+◌, ◌≤◌}
+use Rattle.fips197.proofs.Kit.{refl, sym, ◌∙◌, arith, length, rules}
 use Rattle.sizes.specs.Sizes.{family_of}
 use Rattle.sizes.proofs.Laws.{rows_few, lawful}
 use Rattle.sums.proofs.Filling.{fill_first, fill_stays, fill_makes, fill_done}

@@ -1,5 +1,6 @@
 -- Each turn moves a tag's sum to its row, where that has one; the rows before it are as they were (Filling).
-use Rattle.fips197.proofs.Kit.{◌≡◌, ◌*◌, ◌≤◌, arith, length, rules}
+use Rattle.std.specs.Prelude.{◌≡◌, ◌*◌, ◌≤◌}
+use Rattle.fips197.proofs.Kit.{arith, length, rules}
 use Rattle.sizes.specs.Sizes.{family_of}
 use Rattle.sizes.proofs.Laws.{rows_few, tag_before}
 use Rattle.sums.proofs.Filling.{spread-first, spread_stays, spread_moves, spread_done}

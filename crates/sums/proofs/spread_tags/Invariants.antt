@@ -1,4 +1,4 @@
-use Rattle.fips197.proofs.Kit.{◌≤◌}
+use Rattle.std.specs.Prelude.{◌≤◌}
 use Rattle.sizes.specs.Sizes.{family_of}
 use Rattle.sums.proofs.Filling.{Spread}
 use Rattle.sums.proofs.spread_tags.Given as goal

@@ -1,5 +1,6 @@
 -- From the last to the first, each turn adds one row (Filling).
-use Rattle.fips197.proofs.Kit.{◌≡◌, ap, ◌∙◌, List, ℕ, ◌-◌, ◌≤◌, ◌<◌, arith, get_or, drop}
+use Rattle.std.specs.Prelude.{◌≡◌, ◌-◌, ◌≤◌, ◌<◌}
+use Rattle.fips197.proofs.Kit.{ap, ◌∙◌, List, ℕ, arith, get_or, drop}
 use Rattle.blocks.specs.Block.{◌⊕◌, slot}
 use Rattle.incidence.specs.Family.{Family}
 use Rattle.incidence.specs.Sum.{sum_of}

@@ -1,4 +1,5 @@
-use Rattle.fips197.proofs.Kit.{◌≡◌, ◌≤◌, length, drop}
+use Rattle.std.specs.Prelude.{◌≡◌, ◌≤◌}
+use Rattle.fips197.proofs.Kit.{length, drop}
 use Rattle.incidence.specs.Sum.{sum_of}
 use Rattle.sizes.specs.Sizes.{family_of}
 use Rattle.sums.specs.Adding.{sum_in}

@@ -1,5 +1,6 @@
 -- The words are those of the deciphering schedule.
-use Rattle.fips197.proofs.Kit.{◌≡◌, length, rules}
+use Rattle.std.specs.Prelude.{◌≡◌}
+use Rattle.fips197.proofs.Kit.{length, rules}
 use Rattle.tables.proofs.decipher_with.Goals as goal
 
 pub returns : goal.returns

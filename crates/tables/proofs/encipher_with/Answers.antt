@@ -1,5 +1,6 @@
 -- One block from zeros is enciphered (blocks' Chaining).
-use Rattle.fips197.proofs.Kit.{◌≡◌, ◌∙◌, length, rules}
+use Rattle.std.specs.Prelude.{◌≡◌}
+use Rattle.fips197.proofs.Kit.{◌∙◌, length, rules}
 use Rattle.blocks.proofs.Chaining.{chain_alone}
 use Rattle.fips197.specs.Aes.{cipher}
 use Rattle.tables.proofs.encipher_with.Goals as goal

@@ -1,5 +1,6 @@
 -- Each turn adds one item (Summing).
-use Rattle.fips197.proofs.Kit.{◌≡◌, refl, ap, ◌∙◌, sym, arith, length-take, length-drop, rules}
+use Rattle.std.specs.Prelude.{◌≡◌}
+use Rattle.fips197.proofs.Kit.{refl, ap, ◌∙◌, sym, arith, length-take, length-drop, rules}
 use Rattle.sizes.specs.Sizes.{family_of}
 use Rattle.files.specs.Message.{behind, item}
 use Rattle.files.proofs.Messages.{Fits, behind_more}

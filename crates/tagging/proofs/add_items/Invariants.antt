@@ -1,4 +1,5 @@
-use Rattle.fips197.proofs.Kit.{◌≡◌, ◌-◌, ◌≤◌, length}
+use Rattle.std.specs.Prelude.{◌≡◌, ◌-◌, ◌≤◌}
+use Rattle.fips197.proofs.Kit.{length}
 use Rattle.sizes.specs.Sizes.{family_of}
 use Rattle.files.specs.Message.{behind, item}
 use Rattle.cipher.specs.Cmac.{mac_with}

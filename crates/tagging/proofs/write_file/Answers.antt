@@ -1,5 +1,6 @@
 -- Header, tags and MAC, one behind the other (Writing).
-use Rattle.fips197.proofs.Kit.{◌≡◌, List, ◌++◌, ℕ, ◌+◌, ◌-◌, ◌*◌, ◌≤◌, arith, length, take, drop, length-take, length-drop, put_mid, rules}
+use Rattle.std.specs.Prelude.{◌≡◌, ◌++◌, ◌+◌, ◌-◌, ◌*◌, ◌≤◌}
+use Rattle.fips197.proofs.Kit.{List, ℕ, arith, length, take, drop, length-take, length-drop, put_mid, rules}
 use Rattle.cipher.specs.Aes.{encipher}
 use Rattle.blocks.proofs.Loop.{part_back}
 use Rattle.sizes.proofs.Laws.{code_byte_lem, items_few, tags_few}

@@ -1,5 +1,6 @@
 -- As a sum of three (Computing).
-use Rattle.fips197.proofs.Kit.{◌∙◌, ℕ, ◌%◌, ◌/◌, ◌^◌, ◌≤◌, ◌<◌, arith, mod-lt, zero-lt-suc}
+use Rattle.std.specs.Prelude.{◌%◌, ◌/◌, ◌^◌, ◌≤◌, ◌<◌}
+use Rattle.fips197.proofs.Kit.{◌∙◌, ℕ, arith, mod-lt, zero-lt-suc}
 use Rattle.affine.specs.Field.{product}
 use Rattle.affine.proofs.Computing.{elements_few, times_small, product_is, reduced-low, bit_times}
 use Rattle.affine.proofs.field.product.Goals as goal

@@ -1,5 +1,6 @@
 -- By its test (Computing).
-use Rattle.fips197.proofs.Kit.{◌*◌, ◌^◌, arith, lt-ltb, le-ltb}
+use Rattle.std.specs.Prelude.{◌*◌, ◌^◌}
+use Rattle.fips197.proofs.Kit.{arith, lt-ltb, le-ltb}
 use Rattle.affine.specs.Field.{element_times_x}
 use Rattle.affine.proofs.Computing.{elements_few}
 use Rattle.affine.proofs.field.times_x.Goals as goal

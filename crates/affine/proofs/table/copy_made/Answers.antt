@@ -1,5 +1,6 @@
 -- The row's part of the tables, which stands behind its length (Tables).
-use Rattle.fips197.proofs.Kit.{◌+◌, ◌-◌, ◌*◌, ◌/◌, ◌<◌, arith}
+use Rattle.std.specs.Prelude.{◌+◌, ◌-◌, ◌*◌, ◌/◌, ◌<◌}
+use Rattle.fips197.proofs.Kit.{arith}
 use Rattle.incidence.proofs.Listing.{written_as}
 use Rattle.affine.proofs.Tables.{made_room, made_part, made_few, index_high, rows-high}
 use Rattle.affine.proofs.table.copy_made.Goals as goal

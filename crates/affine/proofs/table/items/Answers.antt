@@ -1,5 +1,6 @@
 -- By the definition.
-use Rattle.fips197.proofs.Kit.{ap, ◌*◌, ◌+◌, ◌-◌, ◌≤◌, ℕ, arith}
+use Rattle.std.specs.Prelude.{◌*◌, ◌+◌, ◌-◌, ◌≤◌}
+use Rattle.fips197.proofs.Kit.{ap, ℕ, arith}
 use Rattle.affine.specs.Lines.{points, affine_items}
 use Rattle.affine.specs.Affine.{affine_family}
 use Rattle.affine.proofs.Computing.{points_few, elements_few, sized-offered, sized-high}

@@ -1,5 +1,6 @@
 -- The size's 64 entries are among the 640 (Tables).
-use Rattle.fips197.proofs.Kit.{◌≡◌, ◌+◌, ◌-◌, ◌*◌, ◌≤◌, arith}
+use Rattle.std.specs.Prelude.{◌≡◌, ◌+◌, ◌-◌, ◌*◌, ◌≤◌}
+use Rattle.fips197.proofs.Kit.{arith}
 use Rattle.affine.proofs.Tables.{index_high}
 use Rattle.affine.proofs.table.part.Goals as goal
 

@@ -1,5 +1,6 @@
 -- The size's part of the table (Tables).
-use Rattle.fips197.proofs.Kit.{refl, ap, ◌+◌, ◌-◌, ◌*◌, ◌<◌, ℕ, arith}
+use Rattle.std.specs.Prelude.{◌+◌, ◌-◌, ◌*◌, ◌<◌}
+use Rattle.fips197.proofs.Kit.{refl, ap, ℕ, arith}
 use Rattle.affine.specs.Field.{polynomial, element_times_x, product_over, product}
 use Rattle.affine.specs.Lines.{points, x_of, y_of, on_line, chosen, is_row}
 use Rattle.affine.specs.Walk.{size_index}

@@ -1,5 +1,6 @@
 -- The size's part of the table (Tables).
-use Rattle.fips197.proofs.Kit.{refl, ap, ◌+◌, ◌-◌, ◌*◌, ◌<◌, ℕ, arith}
+use Rattle.std.specs.Prelude.{◌+◌, ◌-◌, ◌*◌, ◌<◌}
+use Rattle.fips197.proofs.Kit.{refl, ap, ℕ, arith}
 use Rattle.affine.specs.Lines.{points}
 use Rattle.affine.specs.Elimination.{has}
 use Rattle.affine.specs.Walk.{size_index}

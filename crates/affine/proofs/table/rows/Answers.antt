@@ -1,5 +1,6 @@
 -- As many as the test counts (Tables).
-use Rattle.fips197.proofs.Kit.{◌≡◌, sym, ap, ◌∙◌, ◌*◌, ◌+◌, ◌-◌, ◌≤◌, ℕ, arith}
+use Rattle.std.specs.Prelude.{◌≡◌, ◌*◌, ◌+◌, ◌-◌, ◌≤◌}
+use Rattle.fips197.proofs.Kit.{sym, ap, ◌∙◌, ℕ, arith}
 use Rattle.affine.specs.Affine.{affine_family}
 use Rattle.affine.proofs.Computing.{elements_few, sized-offered}
 use Rattle.affine.proofs.Tables.{row_count_lem, rows-high}

@@ -1,5 +1,6 @@
 -- By its tests.
-use Rattle.fips197.proofs.Kit.{◌≡◌, arith, le-leb, lt-leb, ne_eqb}
+use Rattle.std.specs.Prelude.{◌≡◌}
+use Rattle.fips197.proofs.Kit.{arith, le-leb, lt-leb, ne_eqb}
 use Rattle.affine.specs.Affine.{sized}
 use Rattle.affine.proofs.table.sized.Goals as goal
 

@@ -1,5 +1,6 @@
 -- A list a turn, of fewer than 256 entries.
-use Rattle.fips197.proofs.Kit.{◌≡◌, refl, sym, ap, ◌∙◌, List, ℕ, ◌+◌, add-one, arith}
+use Rattle.std.specs.Prelude.{◌≡◌, ◌+◌}
+use Rattle.fips197.proofs.Kit.{refl, sym, ap, ◌∙◌, List, ℕ, add-one, arith}
 use Rattle.affine.specs.Walk.{entry_of, past_lists}
 use Rattle.affine.proofs.table.skip.Goals as goal
 

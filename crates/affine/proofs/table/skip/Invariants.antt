@@ -1,4 +1,4 @@
-use Rattle.fips197.proofs.Kit.{◌≡◌, ◌+◌, ◌-◌, ◌*◌, ◌≤◌}
+use Rattle.std.specs.Prelude.{◌≡◌, ◌+◌, ◌-◌, ◌*◌, ◌≤◌}
 use Rattle.affine.specs.Walk.{past_lists}
 use Rattle.affine.proofs.table.skip.Given as goal
 

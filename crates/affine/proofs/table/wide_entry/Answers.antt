@@ -1,5 +1,6 @@
 -- By the definition.
-use Rattle.fips197.proofs.Kit.{ap₂, arith, ℕ, ◌+◌, ◌*◌}
+use Rattle.std.specs.Prelude.{◌+◌, ◌*◌}
+use Rattle.fips197.proofs.Kit.{ap₂, arith, ℕ}
 use Rattle.affine.specs.Walk.{wide_entry_of}
 use Rattle.affine.proofs.table.wide_entry.Goals as goal
 

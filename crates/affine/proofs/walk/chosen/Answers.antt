@@ -1,5 +1,6 @@
 -- By its test.
-use Rattle.fips197.proofs.Kit.{arith, ◌^◌, le-leb, lt-leb}
+use Rattle.std.specs.Prelude.{◌^◌}
+use Rattle.fips197.proofs.Kit.{arith, le-leb, lt-leb}
 use Rattle.affine.specs.Lines.{chosen}
 use Rattle.affine.proofs.walk.chosen.Goals as goal
 

@@ -1,5 +1,6 @@
 -- By its test.
-use Rattle.fips197.proofs.Kit.{arith, ◌≤◌, ◌^◌, ◌-◌, ◌<◌, eq-eqb, ne_eqb}
+use Rattle.std.specs.Prelude.{◌≤◌, ◌^◌, ◌-◌, ◌<◌}
+use Rattle.fips197.proofs.Kit.{arith, eq-eqb, ne_eqb}
 use Rattle.affine.specs.Lines.{x_of, y_of}
 use Rattle.affine.specs.Walk.{chosen_at}
 use Rattle.affine.proofs.Computing.{elements_few, reduced-low}

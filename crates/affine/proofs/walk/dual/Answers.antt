@@ -1,5 +1,6 @@
 -- By the definition.
-use Rattle.fips197.proofs.Kit.{arith, ◌≤◌}
+use Rattle.std.specs.Prelude.{◌≤◌}
+use Rattle.fips197.proofs.Kit.{arith}
 use Rattle.affine.specs.Lines.{x_of, y_of}
 use Rattle.affine.specs.Walk.{dual}
 use Rattle.affine.proofs.Computing.{elements_few}

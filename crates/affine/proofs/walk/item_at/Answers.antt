@@ -1,5 +1,6 @@
 -- By its tests.
-use Rattle.fips197.proofs.Kit.{◌∙◌, ap, ℕ, ◌+◌, ◌-◌, ◌^◌, ◌≤◌, ◌<◌, arith, eq-eqb, ne_eqb}
+use Rattle.std.specs.Prelude.{◌+◌, ◌-◌, ◌^◌, ◌≤◌, ◌<◌}
+use Rattle.fips197.proofs.Kit.{◌∙◌, ap, ℕ, arith, eq-eqb, ne_eqb}
 use Rattle.affine.specs.declared.Course.{Course}
 use Rattle.affine.specs.Walk.{through_at, through_count, place_on}
 use Rattle.affine.proofs.Computing.{points_few, elements_few, sized-offered, sized-high}

@@ -1,5 +1,6 @@
 -- Through the row's point, or nothing where there is no such row (Walks).
-use Rattle.fips197.proofs.Kit.{◌≡◌, sym, ap, ◌∙◌, true, ℕ, ◌≤◌, drop, ◌++◌}
+use Rattle.std.specs.Prelude.{◌≡◌, ◌≤◌, ◌++◌}
+use Rattle.fips197.proofs.Kit.{sym, ap, ◌∙◌, true, ℕ, drop}
 use Rattle.incidence.specs.Count.{inside}
 use Rattle.incidence.specs.Family.{items_of}
 use Rattle.incidence.proofs.Listing.{written_as, written_none}

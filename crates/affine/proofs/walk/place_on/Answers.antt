@@ -1,5 +1,6 @@
 -- By its test: a place is a point, and points are few (Steps).
-use Rattle.fips197.proofs.Kit.{◌+◌, ◌*◌, ◌≤◌, arith, bit_xor}
+use Rattle.std.specs.Prelude.{◌+◌, ◌*◌, ◌≤◌}
+use Rattle.fips197.proofs.Kit.{arith, bit_xor}
 use Rattle.affine.specs.Walk.{place_on}
 use Rattle.affine.proofs.Computing.{points_few}
 use Rattle.affine.proofs.Steps.{level_place, sloping_place, rows_before}

@@ -1,5 +1,6 @@
 -- Along the item's line, or nothing where there is no such item (Walks); the table has the tag at each point (Tables).
-use Rattle.fips197.proofs.Kit.{◌≡◌, refl, sym, true, ◌^◌}
+use Rattle.std.specs.Prelude.{◌≡◌, ◌^◌}
+use Rattle.fips197.proofs.Kit.{refl, sym, true}
 use Rattle.incidence.specs.Count.{inside}
 use Rattle.incidence.specs.Family.{tags_of}
 use Rattle.incidence.proofs.Listing.{written_as, written_none}

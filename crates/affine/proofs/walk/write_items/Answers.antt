@@ -1,5 +1,6 @@
 -- Each turn stores one number (blocks, Loop).
-use Rattle.fips197.proofs.Kit.{sym, ◌∙◌, ◌≤◌, arith, rules}
+use Rattle.std.specs.Prelude.{◌≤◌}
+use Rattle.fips197.proofs.Kit.{sym, ◌∙◌, arith, rules}
 use Rattle.blocks.proofs.Loop.{part_turn, part_front}
 use Rattle.affine.specs.Walk.{firsts, through_at, through_count}
 use Rattle.affine.proofs.Computing.{sized-offered}

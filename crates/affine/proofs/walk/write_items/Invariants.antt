@@ -1,4 +1,5 @@
-use Rattle.fips197.proofs.Kit.{◌≡◌, ◌-◌, ◌≤◌, length}
+use Rattle.std.specs.Prelude.{◌≡◌, ◌-◌, ◌≤◌}
+use Rattle.fips197.proofs.Kit.{length}
 use Rattle.blocks.proofs.Loop.{part}
 use Rattle.affine.specs.Walk.{firsts, through_at, through_count}
 use Rattle.affine.proofs.walk.write_items.Given as goal

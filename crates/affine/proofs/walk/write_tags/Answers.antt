@@ -1,5 +1,6 @@
 -- Each turn takes the next place of the course (Steps).
-use Rattle.fips197.proofs.Kit.{◌≡◌, refl, ap, ◌∙◌, subst, List, ℕ, ◌++◌, ◌-◌, ◌≤◌, ◌^◌, arith, length, length-set, get_or, drop}
+use Rattle.std.specs.Prelude.{◌≡◌, ◌++◌, ◌-◌, ◌≤◌, ◌^◌}
+use Rattle.fips197.proofs.Kit.{refl, ap, ◌∙◌, subst, List, ℕ, arith, length, length-set, get_or, drop}
 use Rattle.affine.specs.Walk.{place_on, met}
 use Rattle.affine.proofs.Computing.{elements_few, points_few}
 use Rattle.affine.proofs.Walks.{met_few}

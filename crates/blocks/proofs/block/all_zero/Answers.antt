@@ -1,5 +1,6 @@
 -- Each turn looks at one block; those before it are zero (Zeros).
-use Rattle.fips197.proofs.Kit.{◌≡◌, refl, sym, ap, ◌∙◌, arith}
+use Rattle.std.specs.Prelude.{◌≡◌}
+use Rattle.fips197.proofs.Kit.{refl, sym, ap, ◌∙◌, arith}
 use Rattle.blocks.specs.Block.{slot, all_zero}
 use Rattle.blocks.proofs.Zeros.{zeros-next, zeros_stop}
 use Rattle.blocks.proofs.block.all_zero.Goals as goal

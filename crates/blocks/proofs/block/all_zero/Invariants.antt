@@ -1,4 +1,5 @@
-use Rattle.fips197.proofs.Kit.{◌≡◌, true, ◌-◌, ◌≤◌}
+use Rattle.std.specs.Prelude.{◌≡◌, ◌-◌, ◌≤◌}
+use Rattle.fips197.proofs.Kit.{true}
 use Rattle.blocks.specs.Block.{all_zero}
 use Rattle.blocks.proofs.block.all_zero.Given as goal
 

@@ -1,5 +1,6 @@
 -- Each turn reads one byte (Loop).
-use Rattle.fips197.proofs.Kit.{◌≡◌, refl, sym, ◌∙◌, arith, length, take, drop, length-drop, length-take, get_or-take, get_or-drop}
+use Rattle.std.specs.Prelude.{◌≡◌}
+use Rattle.fips197.proofs.Kit.{refl, sym, ◌∙◌, arith, length, take, drop, length-drop, length-take, get_or-take, get_or-drop}
 use Rattle.blocks.proofs.Loop.{part_turn, part_done}
 use Rattle.blocks.proofs.block.block_at.Goals as goal
 

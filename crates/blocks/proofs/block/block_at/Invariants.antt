@@ -1,4 +1,5 @@
-use Rattle.fips197.proofs.Kit.{◌≡◌, ◌-◌, ◌≤◌, take, drop}
+use Rattle.std.specs.Prelude.{◌≡◌, ◌-◌, ◌≤◌}
+use Rattle.fips197.proofs.Kit.{take, drop}
 use Rattle.blocks.proofs.Loop.{part}
 use Rattle.blocks.proofs.block.block_at.Given as goal
 

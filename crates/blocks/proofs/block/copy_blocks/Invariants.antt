@@ -1,4 +1,4 @@
-use Rattle.fips197.proofs.Kit.{◌-◌, ◌≤◌}
+use Rattle.std.specs.Prelude.{◌-◌, ◌≤◌}
 use Rattle.blocks.specs.Block.{slot}
 use Rattle.blocks.proofs.Slots.{Front}
 use Rattle.blocks.proofs.block.copy_blocks.Given as goal

@@ -1,5 +1,6 @@
 -- Each turn writes one shifted byte; the last takes the mark (Doubling).
-use Rattle.fips197.proofs.Kit.{◌≡◌, refl, sym, ap, ◌∙◌, ℕ, ◌+◌, ◌*◌, ◌/◌, ◌%◌, ◌<◌, arith, add-one, length, get_or, bit_xor, Fits, w8, rules}
+use Rattle.std.specs.Prelude.{◌≡◌, ◌+◌, ◌*◌, ◌/◌, ◌%◌, ◌<◌}
+use Rattle.fips197.proofs.Kit.{refl, sym, ap, ◌∙◌, ℕ, arith, add-one, length, get_or, bit_xor, Fits, w8, rules}
 use Rattle.blocks.proofs.Loop.{part, part_turn, part_done}
 use Rattle.blocks.specs.Block.{Block, zeros}
 use Rattle.blocks.proofs.Xor.{bytes_from}

@@ -1,4 +1,4 @@
-use Rattle.fips197.proofs.Kit.{◌≡◌, ◌-◌, ◌≤◌}
+use Rattle.std.specs.Prelude.{◌≡◌, ◌-◌, ◌≤◌}
 use Rattle.blocks.proofs.Loop.{part}
 use Rattle.blocks.specs.Double.{double}
 use Rattle.blocks.proofs.block.double.Given as goal

@@ -1,5 +1,6 @@
 -- What is left to compare decides: the bytes passed were equal.
-use Rattle.fips197.proofs.Kit.{◌≡◌, refl, sym, ◌∙◌, arith, length, rules}
+use Rattle.std.specs.Prelude.{◌≡◌}
+use Rattle.fips197.proofs.Kit.{refl, sym, ◌∙◌, arith, length, rules}
 use Rattle.blocks.proofs.Xor.{same_more, same_stop, same_end}
 use Rattle.blocks.proofs.block.equal.Goals as goal
 

@@ -1,5 +1,6 @@
 -- The OR of the bytes passed and the bytes left decide (Zeros).
-use Rattle.fips197.proofs.Kit.{◌≡◌, refl, sym, ◌∙◌, arith, length, take, drop, length-drop, length-take, get_or-take, get_or-drop}
+use Rattle.std.specs.Prelude.{◌≡◌}
+use Rattle.fips197.proofs.Kit.{refl, sym, ◌∙◌, arith, length, take, drop, length-drop, length-take, get_or-take, get_or-drop}
 use Rattle.blocks.proofs.Zeros.{zero_more, zero_end}
 use Rattle.blocks.proofs.block.is_zero.Goals as goal
 

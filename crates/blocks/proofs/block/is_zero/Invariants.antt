@@ -1,4 +1,5 @@
-use Rattle.fips197.proofs.Kit.{◌≡◌, ◌&&◌, ◌-◌, ◌≤◌, eqb, take, drop}
+use Rattle.std.specs.Prelude.{◌≡◌, ◌&&◌, ◌-◌, ◌≤◌}
+use Rattle.fips197.proofs.Kit.{eqb, take, drop}
 use Rattle.blocks.specs.Block.{zeros, same}
 use Rattle.blocks.proofs.block.is_zero.Given as goal
 

@@ -1,5 +1,6 @@
 -- Each turn writes one byte; what is behind stays (Loop).
-use Rattle.fips197.proofs.Kit.{◌≡◌, refl, ◌∙◌, arith, length, length-set, rules}
+use Rattle.std.specs.Prelude.{◌≡◌}
+use Rattle.fips197.proofs.Kit.{refl, ◌∙◌, arith, length, length-set, rules}
 use Rattle.blocks.proofs.Loop.{part_front, part_turn}
 use Rattle.blocks.proofs.block.put.Goals as goal
 

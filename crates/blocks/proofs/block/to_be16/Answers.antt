@@ -1,5 +1,6 @@
 -- The bytes of a number below 65,536.
-use Rattle.fips197.proofs.Kit.{◌≡◌, ap, [], ◌∷◌, ℕ, ◌/◌, ◌%◌, arith}
+use Rattle.std.specs.Prelude.{◌≡◌, ◌∷◌, ◌/◌, ◌%◌}
+use Rattle.fips197.proofs.Kit.{ap, [], ℕ, arith}
 use Rattle.blocks.specs.Number.{big_endian}
 use Rattle.blocks.proofs.block.to_be16.Goals as goal
 

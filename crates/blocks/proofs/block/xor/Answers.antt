@@ -1,5 +1,6 @@
 -- Each turn writes one byte of the XOR (Loop).
-use Rattle.fips197.proofs.Kit.{◌≡◌, refl, sym, ap, ◌∙◌, ℕ, arith, length, get_or, bit_xor, rules}
+use Rattle.std.specs.Prelude.{◌≡◌}
+use Rattle.fips197.proofs.Kit.{refl, sym, ap, ◌∙◌, ℕ, arith, length, get_or, bit_xor, rules}
 use Rattle.blocks.proofs.Loop.{part_turn, part_read, part_done}
 use Rattle.blocks.specs.Block.{◌⊕◌}
 use Rattle.blocks.proofs.Xor.{⊕-length, ⊕-at}

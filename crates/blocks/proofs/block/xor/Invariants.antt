@@ -1,4 +1,4 @@
-use Rattle.fips197.proofs.Kit.{◌≡◌, ◌-◌, ◌≤◌}
+use Rattle.std.specs.Prelude.{◌≡◌, ◌-◌, ◌≤◌}
 use Rattle.blocks.proofs.Loop.{part}
 use Rattle.blocks.specs.Block.{◌⊕◌}
 use Rattle.blocks.proofs.block.xor.Given as goal

@@ -1,5 +1,6 @@
 -- Read, XORed and written back.
-use Rattle.fips197.proofs.Kit.{ap, ◌∙◌, List, ◌++◌, ℕ, ◌+◌, take, drop}
+use Rattle.std.specs.Prelude.{◌++◌, ◌+◌}
+use Rattle.fips197.proofs.Kit.{ap, ◌∙◌, List, ℕ, take, drop}
 use Rattle.blocks.specs.Block.{◌⊕◌}
 use Rattle.blocks.proofs.block.xor_at.Goals as goal
 

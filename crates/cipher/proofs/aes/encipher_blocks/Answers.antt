@@ -1,5 +1,6 @@
 -- Each turn enciphers one block in its place; those before it stay, and those behind it are still as they were (Slots).
-use Rattle.fips197.proofs.Kit.{◌≡◌, arith, length, rules}
+use Rattle.std.specs.Prelude.{◌≡◌}
+use Rattle.fips197.proofs.Kit.{arith, length, rules}
 use Rattle.cipher.specs.Aes.{cipher}
 use Rattle.blocks.proofs.Slots.{front-first, place-next, front_done}
 use Rattle.cipher.proofs.aes.encipher_blocks.Goals as goal

@@ -1,4 +1,4 @@
-use Rattle.fips197.proofs.Kit.{◌-◌, ◌≤◌}
+use Rattle.std.specs.Prelude.{◌-◌, ◌≤◌}
 use Rattle.blocks.specs.Block.{slot}
 use Rattle.cipher.specs.Aes.{cipher}
 use Rattle.blocks.proofs.Slots.{Front}

@@ -1,5 +1,6 @@
 -- One block from zeros is enciphered (blocks' Chaining).
-use Rattle.fips197.proofs.Kit.{◌≡◌, ◌∙◌, length, rules}
+use Rattle.std.specs.Prelude.{◌≡◌}
+use Rattle.fips197.proofs.Kit.{◌∙◌, length, rules}
 use Rattle.blocks.proofs.Chaining.{chain_alone}
 use Rattle.cipher.specs.Aes.{cipher}
 use Rattle.cipher.proofs.aes.encipher_by.Goals as goal

@@ -1,5 +1,6 @@
 -- The chain over all blocks but the last, and then the last (Chain).
-use Rattle.fips197.proofs.Kit.{◌≡◌, ap, ap₂, ◌∙◌, List, ℕ, ◌-◌, ◌/◌, arith, length, take, drop, take_all, length-take, length-drop, rules}
+use Rattle.std.specs.Prelude.{◌≡◌, ◌-◌, ◌/◌}
+use Rattle.fips197.proofs.Kit.{ap, ap₂, ◌∙◌, List, ℕ, arith, length, take, drop, take_all, length-take, length-drop, rules}
 use Rattle.blocks.specs.Block.{◌⊕◌, zeros}
 use Rattle.blocks.specs.Chain.{chain}
 use Rattle.blocks.proofs.Chaining.{chain-block}

@@ -1,5 +1,6 @@
 -- The last block is written where it stands, and the chain goes over the message laid out (Chain).
-use Rattle.fips197.proofs.Kit.{◌≡◌, ◌∙◌, arith, length, length-take, length-drop, rules}
+use Rattle.std.specs.Prelude.{◌≡◌}
+use Rattle.fips197.proofs.Kit.{◌∙◌, arith, length, length-take, length-drop, rules}
 use Rattle.cipher.specs.Aes.{cipher}
 use Rattle.cipher.specs.Cmac.{mac_with}
 use Rattle.cipher.proofs.Chain.{laid_in_place, mac_in_place}

@@ -1,5 +1,6 @@
 -- Each turn reads one byte of what is left; then the mark, and the zeros that were there (Chain).
-use Rattle.fips197.proofs.Kit.{◌≡◌, refl, sym, ap, ◌∙◌, ℕ, ◌+◌, arith, length, get_or}
+use Rattle.std.specs.Prelude.{◌≡◌, ◌+◌}
+use Rattle.fips197.proofs.Kit.{refl, sym, ap, ◌∙◌, ℕ, arith, length, get_or}
 use Rattle.blocks.proofs.Loop.{part, part_turn}
 use Rattle.cipher.proofs.Chain.{padded-length, padded-at, padded_mark, padded_end}
 use Rattle.cipher.specs.Cmac.{padded}

@@ -1,6 +1,7 @@
 -- Each turn deciphers one block in its place; those before it stay, and those behind it are still as they were (Slots). The schedule is
 -- any whose deciphering schedule the words are.
-use Rattle.fips197.proofs.Kit.{◌≡◌, refl, arith, length, rules}
+use Rattle.std.specs.Prelude.{◌≡◌}
+use Rattle.fips197.proofs.Kit.{refl, arith, length, rules}
 use Rattle.cipher.specs.Aes.{inv_cipher}
 use Rattle.blocks.proofs.Slots.{front-first, place-next, front_done}
 use Rattle.cipher.proofs.engine.decipher_blocks.Goals as goal

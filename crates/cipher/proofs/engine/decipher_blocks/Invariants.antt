@@ -1,4 +1,5 @@
-use Rattle.fips197.proofs.Kit.{◌≡◌, List, ℕ, ◌-◌, ◌≤◌, length}
+use Rattle.std.specs.Prelude.{◌≡◌, ◌-◌, ◌≤◌}
+use Rattle.fips197.proofs.Kit.{List, ℕ, length}
 use Rattle.tables.specs.RoundTables.{DecipherWords}
 use Rattle.blocks.specs.Block.{slot}
 use Rattle.cipher.specs.Aes.{inv_cipher}

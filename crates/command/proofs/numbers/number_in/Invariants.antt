@@ -1,4 +1,5 @@
-use Rattle.fips197.proofs.Kit.{◌-◌, length}
+use Rattle.std.specs.Prelude.{◌-◌}
+use Rattle.fips197.proofs.Kit.{length}
 use Rattle.command.proofs.Reading.{Reading}
 use Rattle.command.proofs.numbers.number_in.Given as goal
 

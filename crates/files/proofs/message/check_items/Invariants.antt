@@ -1,4 +1,5 @@
-use Rattle.fips197.proofs.Kit.{◌≡◌, ◌-◌, ◌≤◌, length}
+use Rattle.std.specs.Prelude.{◌≡◌, ◌-◌, ◌≤◌}
+use Rattle.fips197.proofs.Kit.{length}
 use Rattle.files.specs.Message.{behind, refuse_items}
 use Rattle.files.specs.Refusals.{none}
 use Rattle.files.proofs.message.check_items.Given as goal

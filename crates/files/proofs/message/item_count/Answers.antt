@@ -1,5 +1,6 @@
 -- The number behind letters, version and number.
-use Rattle.fips197.proofs.Kit.{◌≡◌, ap, ◌∙◌, arith}
+use Rattle.std.specs.Prelude.{◌≡◌}
+use Rattle.fips197.proofs.Kit.{ap, ◌∙◌, arith}
 use Rattle.stamp.specs.Front.{front_size, version_of}
 use Rattle.stamp.proofs.Fronts.{front_low}
 use Rattle.files.specs.Message.{number16, items_at, item_count}

@@ -1,5 +1,6 @@
 -- Behind the items passed, which all fit (Messages).
-use Rattle.fips197.proofs.Kit.{◌≡◌, sym, ap, ◌∙◌, ℕ, ◌+◌, ◌≤◌, arith, length, subst}
+use Rattle.std.specs.Prelude.{◌≡◌, ◌+◌, ◌≤◌}
+use Rattle.fips197.proofs.Kit.{sym, ap, ◌∙◌, ℕ, arith, length, subst}
 use Rattle.files.specs.Message.{number16, behind}
 use Rattle.files.proofs.Messages.{behind-low, behind_more, item-fits}
 use Rattle.files.specs.declared.Refusal.{Refusal}

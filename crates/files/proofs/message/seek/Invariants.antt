@@ -1,4 +1,4 @@
-use Rattle.fips197.proofs.Kit.{◌≡◌, ◌-◌, ◌≤◌}
+use Rattle.std.specs.Prelude.{◌≡◌, ◌-◌, ◌≤◌}
 use Rattle.files.specs.Message.{behind}
 use Rattle.files.proofs.message.seek.Given as goal
 

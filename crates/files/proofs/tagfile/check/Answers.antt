@@ -1,5 +1,6 @@
 -- What the file begins with, then the rest (Passing).
-use Rattle.fips197.proofs.Kit.{◌≡◌, sym, ap, ◌∙◌, Bool, ℕ, ◌+◌, arith}
+use Rattle.std.specs.Prelude.{◌≡◌, ◌+◌}
+use Rattle.fips197.proofs.Kit.{sym, ap, ◌∙◌, Bool, ℕ, arith}
 use Rattle.stamp.specs.Front.{front_size, version_of, begins_as}
 use Rattle.stamp.proofs.Fronts.{begins_as_so}
 use Rattle.files.specs.Refusals.{unless}

@@ -1,5 +1,6 @@
 -- The last 16 bytes against CMAC of those before (TagFiles).
-use Rattle.fips197.proofs.Kit.{refl, ◌∙◌, ◌≤◌, arith, length}
+use Rattle.std.specs.Prelude.{◌≤◌}
+use Rattle.fips197.proofs.Kit.{refl, ◌∙◌, arith, length}
 use Rattle.files.proofs.Accepted.{formed}
 use Rattle.files.proofs.TagFiles.{mac_is}
 use Rattle.files.proofs.tagfile.check_mac.Goals as goal

@@ -1,5 +1,6 @@
 -- The bytes before the tags, the tags and the MAC.
-use Rattle.fips197.proofs.Kit.{◌≤◌, arith}
+use Rattle.std.specs.Prelude.{◌≤◌}
+use Rattle.fips197.proofs.Kit.{arith}
 use Rattle.sizes.proofs.Laws.{tags_few}
 use Rattle.files.specs.TagFile.{file_size}
 use Rattle.files.proofs.tagfile.file_size.Goals as goal

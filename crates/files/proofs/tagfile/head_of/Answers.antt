@@ -1,5 +1,6 @@
 -- The stamp, and the two numbers behind it.
-use Rattle.fips197.proofs.Kit.{◌≡◌, ap, ◌∙◌, ℕ, ◌+◌, arith, get_or}
+use Rattle.std.specs.Prelude.{◌≡◌, ◌+◌}
+use Rattle.fips197.proofs.Kit.{ap, ◌∙◌, ℕ, arith, get_or}
 use Rattle.stamp.specs.declared.Stamp.{Stamp}
 use Rattle.stamp.specs.Front.{front_size, version_of, stamp_of}
 use Rattle.files.specs.Message.{number16}

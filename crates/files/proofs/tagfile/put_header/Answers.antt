@@ -1,5 +1,6 @@
 -- The stamp, then size code and count behind it (TagFiles).
-use Rattle.fips197.proofs.Kit.{ap, ◌∙◌, ◌∷◌, ◌++◌, ℕ, ◌+◌, arith, take, drop}
+use Rattle.std.specs.Prelude.{◌∷◌, ◌++◌, ◌+◌}
+use Rattle.fips197.proofs.Kit.{ap, ◌∙◌, ℕ, arith, take, drop}
 use Rattle.blocks.specs.Number.{big_endian}
 use Rattle.files.specs.TagFile.{tag_letters, tags_at}
 use Rattle.files.proofs.TagFiles.{front_put, header_put}

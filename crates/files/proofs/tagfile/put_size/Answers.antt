@@ -1,5 +1,6 @@
 -- Three stores, the count as to_be16 gives it.
-use Rattle.fips197.proofs.Kit.{◌≡◌, ◌∙◌, [], ◌∷◌, ◌++◌, append_assoc, suc, ◌+◌, add-one, arith, get_or, set, take, drop, length-set, sets-eq}
+use Rattle.std.specs.Prelude.{◌≡◌, ◌∷◌, ◌++◌, ◌+◌}
+use Rattle.fips197.proofs.Kit.{◌∙◌, [], append_assoc, suc, add-one, arith, get_or, set, take, drop, length-set, sets-eq}
 use Rattle.blocks.specs.Number.{big_endian}
 use Rattle.files.proofs.tagfile.put_size.Goals as goal
 

@@ -1,5 +1,6 @@
 -- The part behind the first n bytes comes back with their MAC in front.
-use Rattle.fips197.proofs.Kit.{◌≡◌, ap, ◌∙◌, List, ◌++◌, ℕ, ◌+◌, ◌-◌, arith, take, drop}
+use Rattle.std.specs.Prelude.{◌≡◌, ◌++◌, ◌+◌, ◌-◌}
+use Rattle.fips197.proofs.Kit.{ap, ◌∙◌, List, ℕ, arith, take, drop}
 use Rattle.cipher.specs.Cmac.{cmac}
 use Rattle.blocks.proofs.Loop.{part_back}
 use Rattle.files.proofs.tagfile.seal.Goals as goal

@@ -1,5 +1,6 @@
 -- From behind the head to the MAC.
-use Rattle.fips197.proofs.Kit.{◌≡◌, ap, ap₂, ◌∙◌, ℕ, ◌+◌, ◌-◌, arith, length, take, drop}
+use Rattle.std.specs.Prelude.{◌≡◌, ◌+◌, ◌-◌}
+use Rattle.fips197.proofs.Kit.{ap, ap₂, ◌∙◌, ℕ, arith, length, take, drop}
 use Rattle.stamp.specs.Front.{version_of}
 use Rattle.stamp.proofs.Fronts.{front_low}
 use Rattle.files.specs.TagFile.{tags_at, tags_in}

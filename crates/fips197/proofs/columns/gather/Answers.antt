@@ -1,5 +1,6 @@
 -- Four bytes through the table.
-use Rattle.fips197.proofs.Kit.{[], ◌∙◌, ◌∷◌}
+use Rattle.std.specs.Prelude.{◌∷◌}
+use Rattle.fips197.proofs.Kit.{[], ◌∙◌}
 use Rattle.fips197.proofs.columns.gather.Goals as goal
 
 pub returns : goal.returns

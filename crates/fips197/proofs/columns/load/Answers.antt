@@ -1,5 +1,6 @@
 -- The block is all of it.
-use Rattle.fips197.proofs.Kit.{◌≡◌, ◌∙◌, take_all, length, arith, rules}
+use Rattle.std.specs.Prelude.{◌≡◌}
+use Rattle.fips197.proofs.Kit.{◌∙◌, take_all, length, arith, rules}
 use Rattle.fips197.proofs.columns.load.Goals as goal
 
 pub load_at-requires : goal.load_at-requires

@@ -1,5 +1,6 @@
 -- Four words that stand one after another are a block (States).
-use Rattle.fips197.proofs.Kit.{sym, ◌∙◌, ◌++◌}
+use Rattle.std.specs.Prelude.{◌++◌}
+use Rattle.fips197.proofs.Kit.{sym, ◌∙◌}
 use Rattle.fips197.specs.Words.{state_of}
 use Rattle.fips197.proofs.States.{words-at}
 use Rattle.fips197.proofs.columns.load_at.Goals as goal

@@ -1,5 +1,6 @@
 -- Four words, each of its four bytes.
-use Rattle.fips197.proofs.Kit.{[], ◌∷◌, get_or}
+use Rattle.std.specs.Prelude.{◌∷◌}
+use Rattle.fips197.proofs.Kit.{[], get_or}
 use Rattle.fips197.specs.Words.{bytes_of, state_of}
 use Rattle.fips197.proofs.columns.store.Goals as goal
 

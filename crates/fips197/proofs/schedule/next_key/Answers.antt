@@ -1,5 +1,6 @@
 -- A word at a time; the constant is a word of one byte (WordLaws).
-use Rattle.fips197.proofs.Kit.{ap, ◌∙◌, List, ℕ, ◌<◌, rules}
+use Rattle.std.specs.Prelude.{◌<◌}
+use Rattle.fips197.proofs.Kit.{ap, ◌∙◌, List, ℕ, rules}
 use Rattle.fips197.specs.Block.{◌⊕◌}
 use Rattle.fips197.specs.Aes.{rcon}
 use Rattle.fips197.specs.Words.{bytes_of}

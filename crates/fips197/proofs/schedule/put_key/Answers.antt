@@ -1,5 +1,6 @@
 -- Each turn writes one byte of the round key (Loop).
-use Rattle.fips197.proofs.Kit.{◌≡◌, refl, ap, ◌∙◌, List, ◌++◌, ℕ, ◌+◌, ◌*◌, arith, length, take, drop, rules}
+use Rattle.std.specs.Prelude.{◌≡◌, ◌++◌, ◌+◌, ◌*◌}
+use Rattle.fips197.proofs.Kit.{refl, ap, ◌∙◌, List, ℕ, arith, length, take, drop, rules}
 use Rattle.fips197.proofs.Loop.{part, place-first, place_turn, place_done}
 use Rattle.fips197.proofs.schedule.put_key.Goals as goal
 

@@ -1,4 +1,5 @@
-use Rattle.fips197.proofs.Kit.{◌≡◌, ◌++◌, ◌+◌, ◌-◌, ◌≤◌, length, take, drop}
+use Rattle.std.specs.Prelude.{◌≡◌, ◌++◌, ◌+◌, ◌-◌, ◌≤◌}
+use Rattle.fips197.proofs.Kit.{length, take, drop}
 use Rattle.fips197.proofs.Loop.{part}
 use Rattle.fips197.proofs.schedule.put_key.Given as goal
 

@@ -1,5 +1,6 @@
 -- Each turn is a round (RoundTrip).
-use Rattle.fips197.proofs.Kit.{◌≡◌, refl, ap, ap₂, ◌∙◌, List, ℕ, arith}
+use Rattle.std.specs.Prelude.{◌≡◌}
+use Rattle.fips197.proofs.Kit.{refl, ap, ap₂, ◌∙◌, List, ℕ, arith}
 use Rattle.fips197.specs.Block.{◌⊕◌}
 use Rattle.fips197.specs.Aes.{sbox, sub_bytes, shift_rows, round_key, rounds, cipher}
 use Rattle.fips197.proofs.RoundTrip.{rounds_more}

@@ -1,4 +1,4 @@
-use Rattle.fips197.proofs.Kit.{◌≡◌, ◌≤◌}
+use Rattle.std.specs.Prelude.{◌≡◌, ◌≤◌}
 use Rattle.fips197.specs.Aes.{inv_rounds}
 use Rattle.fips197.specs.Words.{state_of}
 use Rattle.plain.proofs.rounds.inv_cipher.Given as goal

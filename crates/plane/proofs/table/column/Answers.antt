@@ -1,5 +1,6 @@
 -- Each entry by its place; beyond them both are 0.
-use Rattle.fips197.proofs.Kit.{◌≡◌, sym, ap, ℕ, arith, length, get_or, List·getD-eq-default, rules}
+use Rattle.std.specs.Prelude.{◌≡◌}
+use Rattle.fips197.proofs.Kit.{sym, ap, ℕ, arith, length, get_or, List·getD-eq-default, rules}
 use Rattle.plane.proofs.table.column.Goals as goal
 
 pub returns-in-0 : goal.returns-in-0

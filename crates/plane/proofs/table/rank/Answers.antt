@@ -1,5 +1,6 @@
 -- What is found and what is still to be found are all of them (Ranks).
-use Rattle.fips197.proofs.Kit.{◌≡◌, ap, ◌∙◌, List, ℕ, ◌+◌, arith, length, drop, drop-length}
+use Rattle.std.specs.Prelude.{◌≡◌, ◌+◌}
+use Rattle.fips197.proofs.Kit.{ap, ◌∙◌, List, ℕ, arith, length, drop, drop-length}
 use Rattle.plane.proofs.Ranks.{rank, rank_length, rank_more, rank_same}
 use Rattle.plane.proofs.table.rank.Goals as goal
 use Rattle.plane.proofs.table.rank.Goals.{then-read-x, else-read-x}

@@ -1,4 +1,5 @@
-use Rattle.fips197.proofs.Kit.{◌≡◌, ◌+◌, ◌-◌, ◌≤◌, drop}
+use Rattle.std.specs.Prelude.{◌≡◌, ◌+◌, ◌-◌, ◌≤◌}
+use Rattle.fips197.proofs.Kit.{drop}
 use Rattle.plane.proofs.Ranks.{rank}
 use Rattle.plane.proofs.table.rank.Given as goal
 

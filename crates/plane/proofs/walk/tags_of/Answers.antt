@@ -1,5 +1,6 @@
 -- The walk back along the row that stands as far from the end as the item, or nothing where there is no such item (Walks).
-use Rattle.fips197.proofs.Kit.{◌≡◌, sym, ap, ◌∙◌, ◌+◌, ◌-◌, arith, rules}
+use Rattle.std.specs.Prelude.{◌≡◌, ◌+◌, ◌-◌}
+use Rattle.fips197.proofs.Kit.{sym, ap, ◌∙◌, arith, rules}
 use Rattle.incidence.specs.Family.{tags_of}
 use Rattle.incidence.proofs.Counting.{inside-low, inside-high, inside_of}
 use Rattle.incidence.proofs.Listing.{written_as, written_none}

@@ -1,5 +1,6 @@
 -- The list from where it turns on, and then what stands before that place, each moved (Walks).
-use Rattle.fips197.proofs.Kit.{rules, ◌≡◌, refl, sym, ap, ◌∙◌, List, ◌++◌, map, ℕ, ◌+◌, ◌-◌, ◌≤◌, arith, length, take, drop, take_all, length-map, length-take-le, length-drop}
+use Rattle.std.specs.Prelude.{◌≡◌, ◌++◌, ◌+◌, ◌-◌, ◌≤◌}
+use Rattle.fips197.proofs.Kit.{rules, refl, sym, ap, ◌∙◌, List, map, ℕ, arith, length, take, drop, take_all, length-map, length-take-le, length-drop}
 use Rattle.blocks.proofs.Loop.{put_behind, front_kept}
 use Rattle.incidence.specs.Family.{items_of}
 use Rattle.plane.specs.Plane.{plane}

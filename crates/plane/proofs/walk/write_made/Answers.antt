@@ -1,5 +1,6 @@
 -- Each turn stores one row (blocks, Loop).
-use Rattle.fips197.proofs.Kit.{◌≡◌, refl, ap, ◌∙◌, ◌<◌, arith, length, get_or, rules}
+use Rattle.std.specs.Prelude.{◌≡◌, ◌<◌}
+use Rattle.fips197.proofs.Kit.{refl, ap, ◌∙◌, arith, length, get_or, rules}
 use Rattle.blocks.proofs.Loop.{part_turn, part_front}
 use Rattle.plane.specs.Table.{plane_pattern}
 use Rattle.plane.specs.Plane.{plane}

@@ -1,4 +1,5 @@
-use Rattle.fips197.proofs.Kit.{◌≡◌, ◌-◌, ◌≤◌, length}
+use Rattle.std.specs.Prelude.{◌≡◌, ◌-◌, ◌≤◌}
+use Rattle.fips197.proofs.Kit.{length}
 use Rattle.blocks.proofs.Loop.{part}
 use Rattle.plane.specs.Plane.{plane}
 use Rattle.plane.proofs.walk.write_made.Given as goal

@@ -1,5 +1,6 @@
 -- Each turn stores one number (fips197's Loop).
-use Rattle.fips197.proofs.Kit.{◌≡◌, refl, sym, ap, ◌∙◌, map, ◌++◌, ℕ, ◌+◌, ◌-◌, arith, length, take, drop, length-map, rules}
+use Rattle.std.specs.Prelude.{◌≡◌, ◌++◌, ◌+◌, ◌-◌}
+use Rattle.fips197.proofs.Kit.{refl, sym, ap, ◌∙◌, map, ℕ, arith, length, take, drop, length-map, rules}
 use Rattle.fips197.proofs.Loop.{part, place-first, place_turn, place_done}
 use Rattle.blocks.proofs.Loop.{map_at}
 use Rattle.plane.proofs.walk.write_moved.Goals as goal

@@ -1,4 +1,5 @@
-use Rattle.fips197.proofs.Kit.{◌≡◌, map, ◌++◌, ◌+◌, ◌-◌, ◌≤◌, length, take, drop}
+use Rattle.std.specs.Prelude.{◌≡◌, ◌++◌, ◌+◌, ◌-◌, ◌≤◌}
+use Rattle.fips197.proofs.Kit.{map, length, take, drop}
 use Rattle.fips197.proofs.Loop.{part}
 use Rattle.plane.proofs.walk.write_moved.Given as goal
 

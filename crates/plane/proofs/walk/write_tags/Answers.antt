@@ -1,5 +1,6 @@
 -- Each turn stores one row, which is a tag, and the first past t ends the walk (Walks).
-use Rattle.fips197.proofs.Kit.{◌≡◌, refl, ◌+◌, ◌-◌, ◌≤◌, ◌<◌, arith, length, rules}
+use Rattle.std.specs.Prelude.{◌≡◌, ◌+◌, ◌-◌, ◌≤◌, ◌<◌}
+use Rattle.fips197.proofs.Kit.{refl, arith, length, rules}
 use Rattle.blocks.proofs.Loop.{part_turn, part_front}
 use Rattle.incidence.specs.Family.{rows_of, tags_of}
 use Rattle.plane.specs.Table.{plane_items, plane_tags}

@@ -1,4 +1,5 @@
-use Rattle.fips197.proofs.Kit.{◌≡◌, ◌+◌, ◌-◌, ◌≤◌, length}
+use Rattle.std.specs.Prelude.{◌≡◌, ◌+◌, ◌-◌, ◌≤◌}
+use Rattle.fips197.proofs.Kit.{length}
 use Rattle.blocks.proofs.Loop.{part}
 use Rattle.incidence.specs.Family.{tags_of}
 use Rattle.plane.specs.Table.{plane_items}

@@ -1,5 +1,6 @@
 -- The tag file of the sums where the refusal's number is 0, else all as it was (Stepping).
-use Rattle.fips197.proofs.Kit.{◌≡◌, sym, ap, ◌∙◌, subst, true, ◌++◌, ◌*◌, ◌≤◌, length, drop, rules}
+use Rattle.std.specs.Prelude.{◌≡◌, ◌++◌, ◌*◌, ◌≤◌}
+use Rattle.fips197.proofs.Kit.{sym, ap, ◌∙◌, subst, true, length, drop, rules}
 use Rattle.sizes.specs.Sizes.{known, family_of}
 use Rattle.files.specs.declared.tagfile.Head.{Head}
 use Rattle.files.specs.TagFile.{file_size}

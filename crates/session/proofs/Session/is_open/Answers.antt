@@ -1,5 +1,6 @@
 -- By its two tests.
-use Rattle.fips197.proofs.Kit.{sym, ap, ◌∙◌, Bool, ◌&&◌, leb}
+use Rattle.std.specs.Prelude.{◌&&◌}
+use Rattle.fips197.proofs.Kit.{sym, ap, ◌∙◌, Bool, leb}
 use Rattle.incidence.proofs.Booleans.{and_false_l}
 use Rattle.session.specs.Session.{session_is_open}
 use Rattle.session.proofs.Session.is_open.Goals as goal

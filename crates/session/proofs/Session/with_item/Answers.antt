@@ -1,5 +1,6 @@
 -- The sums take the item's hash (Stepping).
-use Rattle.fips197.proofs.Kit.{◌≡◌, ◌+◌, length, rules}
+use Rattle.std.specs.Prelude.{◌≡◌, ◌+◌}
+use Rattle.fips197.proofs.Kit.{length, rules}
 use Rattle.files.specs.TagFile.{stamp_for}
 use Rattle.tagging.proofs.Summing.{added_ready}
 use Rattle.session.proofs.Carried.{sums_fit, added_is}

@@ -1,4 +1,5 @@
-use Rattle.fips197.proofs.Kit.{◌≡◌, ℕ, ◌-◌, ◌≤◌, ◌<◌, length, get_or}
+use Rattle.std.specs.Prelude.{◌≡◌, ◌-◌, ◌≤◌, ◌<◌}
+use Rattle.fips197.proofs.Kit.{ℕ, length, get_or}
 use Rattle.fips197.specs.Words.{bytes_of}
 use Rattle.tables.specs.RoundTables.{decipher_word}
 use Rattle.tables.proofs.keys.decipher_words.Given as goal

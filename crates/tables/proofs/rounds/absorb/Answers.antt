@@ -1,5 +1,6 @@
 -- Each turn takes a block into the chain (blocks' Chaining).
-use Rattle.fips197.proofs.Kit.{◌≡◌, refl, ap, ap₂, ◌∙◌, List, ℕ, ◌/◌, arith, length}
+use Rattle.std.specs.Prelude.{◌≡◌, ◌/◌}
+use Rattle.fips197.proofs.Kit.{refl, ap, ap₂, ◌∙◌, List, ℕ, arith, length}
 use Rattle.blocks.specs.Block.{◌⊕◌}
 use Rattle.blocks.specs.Chain.{chain}
 use Rattle.blocks.proofs.Chaining.{chain_next}

@@ -1,4 +1,5 @@
-use Rattle.fips197.proofs.Kit.{◌≡◌, ◌/◌, ◌-◌, ◌≤◌, length}
+use Rattle.std.specs.Prelude.{◌≡◌, ◌/◌, ◌-◌, ◌≤◌}
+use Rattle.fips197.proofs.Kit.{length}
 use Rattle.blocks.specs.Chain.{chain}
 use Rattle.fips197.specs.Aes.{cipher}
 use Rattle.fips197.specs.Words.{state_of}

@@ -1,5 +1,6 @@
 -- A column at a time (Joining).
-use Rattle.fips197.proofs.Kit.{◌+◌, ◌*◌, arith}
+use Rattle.std.specs.Prelude.{◌+◌, ◌*◌}
+use Rattle.fips197.proofs.Kit.{arith}
 use Rattle.tables.proofs.Joining.{keyed_words}
 use Rattle.tables.proofs.rounds.add_words.Goals as goal
 

@@ -1,5 +1,6 @@
 -- Four bytes through the S-box.
-use Rattle.fips197.proofs.Kit.{◌∙◌, [], ◌∷◌}
+use Rattle.std.specs.Prelude.{◌∷◌}
+use Rattle.fips197.proofs.Kit.{◌∙◌, []}
 use Rattle.tables.proofs.rounds.gather.Goals as goal
 
 pub returns : goal.returns

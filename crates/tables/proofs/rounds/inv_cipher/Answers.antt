@@ -1,5 +1,6 @@
 -- Each turn undoes a round: what is left to do gives what the whole gives (RoundTrip).
-use Rattle.fips197.proofs.Kit.{◌≡◌, refl, ap, ◌∙◌, ℕ, arith}
+use Rattle.std.specs.Prelude.{◌≡◌}
+use Rattle.fips197.proofs.Kit.{refl, ap, ◌∙◌, ℕ, arith}
 use Rattle.fips197.specs.Block.{◌⊕◌}
 use Rattle.fips197.specs.Aes.{inv_sbox, inv_sub_bytes, inv_rounds, inv_cipher}
 use Rattle.fips197.specs.Words.{state_of}

@@ -1,4 +1,5 @@
-use Rattle.fips197.proofs.Kit.{◌≡◌, List, ℕ, ◌≤◌, length}
+use Rattle.std.specs.Prelude.{◌≡◌, ◌≤◌}
+use Rattle.fips197.proofs.Kit.{List, ℕ, length}
 use Rattle.fips197.specs.Aes.{inv_rounds}
 use Rattle.fips197.specs.Words.{state_of}
 use Rattle.tables.specs.RoundTables.{DecipherWords}

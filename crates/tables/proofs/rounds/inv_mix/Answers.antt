@@ -1,5 +1,6 @@
 -- A column at a time: what the tables hold adds up to the mixed column (Joining).
-use Rattle.fips197.proofs.Kit.{◌∙◌, ◌/◌, ◌%◌}
+use Rattle.std.specs.Prelude.{◌/◌, ◌%◌}
+use Rattle.fips197.proofs.Kit.{◌∙◌}
 use Rattle.fips197.specs.Aes.{inv_sbox, inv_mixed, inv_mix_columns, inv_sub_bytes}
 use Rattle.tables.specs.RoundTables.{inv_round_entry}
 use Rattle.tables.proofs.Joining.{inv_spread_sum, mixed_unshifted}

@@ -1,5 +1,6 @@
 -- A column at a time: what the tables hold adds up to the mixed column (Joining).
-use Rattle.fips197.proofs.Kit.{◌∙◌, ◌/◌, ◌%◌}
+use Rattle.std.specs.Prelude.{◌/◌, ◌%◌}
+use Rattle.fips197.proofs.Kit.{◌∙◌}
 use Rattle.fips197.specs.Aes.{sbox, mixed, mix_columns, sub_bytes}
 use Rattle.tables.specs.RoundTables.{round_entry}
 use Rattle.tables.proofs.Joining.{spread_sum, mixed_shifted}

@@ -1,4 +1,4 @@
-use Rattle.fips197.proofs.Kit.{◌-◌}
+use Rattle.std.specs.Prelude.{◌-◌}
 use Rattle.fips197.specs.Words.{state_of}
 use Rattle.fips197.proofs.Schedules.{Written}
 use Rattle.tables.proofs.schedule.expand.Given as goal

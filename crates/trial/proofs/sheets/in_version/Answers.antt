@@ -1,5 +1,6 @@
 -- As Tag makes its file (scheme's write_tag_file); no version has a longer one.
-use Rattle.fips197.proofs.Kit.{◌≡◌, ap, List, ℕ, ◌*◌, ◌≤◌, arith, length}
+use Rattle.std.specs.Prelude.{◌≡◌, ◌*◌, ◌≤◌}
+use Rattle.fips197.proofs.Kit.{ap, List, ℕ, arith, length}
 use Rattle.sizes.specs.Sizes.{family_of}
 use Rattle.sizes.proofs.Laws.{tags_few}
 use Rattle.stamp.specs.declared.Stamp.{Stamp}

@@ -1,5 +1,6 @@
 -- Each test settles it (Messages).
-use Rattle.fips197.proofs.Kit.{ap, ◌∙◌, ℕ, ◌+◌, arith, length, leb}
+use Rattle.std.specs.Prelude.{◌+◌}
+use Rattle.fips197.proofs.Kit.{ap, ◌∙◌, ℕ, arith, length, leb}
 use Rattle.files.proofs.Messages.{fits-not-length, fits-not-size, fits_else}
 use Rattle.files.proofs.message.Cursor.fits.Goals as goal
 
