@@ -1,5 +1,5 @@
 -- What a crate above may use of the ciphers and of CMAC: sizes and byte ranges, and that deciphering undoes enciphering and the
--- reverse. It rules nothing of what AES is. The laws of XOR and of numbers that it shares are in Xor, Numbers and Doubling.
+-- reverse. It needs nothing of what AES is. The laws of XOR and of numbers that it shares are in Xor, Numbers and Doubling.
 use Rattle.std.specs.Prelude.{◌≡◌}
 use Rattle.fips197.proofs.Kit.{ap, List, ℕ, arith, length}
 use Rattle.blocks.specs.Block.{Bytes, Block}

@@ -1,5 +1,5 @@
 -- What a crate above may use of the ciphers: sizes and byte ranges, and that deciphering undoes enciphering and the reverse.
--- It rules nothing of what AES is, nor which engine computes it.
+-- It needs nothing of what AES is, nor which engine computes it.
 use Rattle.std.specs.Prelude.{◌≡◌, ◌<◌}
 use Rattle.fips197.proofs.Kit.{ap, ◌∙◌, List, ℕ, arith, length, get_or, w8, Fits}
 use Rattle.fips197.specs.Block.{Block}

@@ -1,4 +1,4 @@
--- The laws that the proofs of this crate, of the engines and of the crates above cite. `Laws` is what a crate above rules of the ciphers.
+-- The laws that the proofs of this crate, of the engines and of the crates above cite. `Laws` is what a crate above needs of the ciphers.
 pub mod Kit
 pub mod Xor
 pub mod Table

@@ -1,5 +1,5 @@
 -- What a crate above may use of the size codes: every known code's family is lawful, a plane's is projective and its limit at least 2, the
--- numbers are small, and a code that is none has nothing. It rules nothing else of planes, and nothing of lines.
+-- numbers are small, and a code that is none has nothing. It needs nothing else of planes, and nothing of lines.
 use Rattle.std.specs.Prelude.{◌≡◌, ◌++◌, ◌⊎◌, ◌/◌, ◌%◌, ◌≤◌, ◌<◌, if◌then◌else◌}
 use Rattle.fips197.proofs.Kit.{refl, ap, ◌∙◌, sym, Bool, true, false, List, subst, inl, inr, ℕ, zero, suc, arith, leb, length, get_or, drop, List·getD-append, leb-true, leb-false}
 use Rattle.incidence.specs.Count.{inside}
