@@ -8,3 +8,4 @@ pub mod Reloading
 pub mod Drifting
 pub mod Vacancies
 pub mod StarredCards
+pub mod FromSums
