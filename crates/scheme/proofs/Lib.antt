@@ -9,3 +9,4 @@ pub mod Drifting
 pub mod Vacancies
 pub mod StarredCards
 pub mod FromSums
+pub mod Replacing
