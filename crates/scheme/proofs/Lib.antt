@@ -10,3 +10,4 @@ pub mod Vacancies
 pub mod StarredCards
 pub mod FromSums
 pub mod Replacing
+pub mod Combining
