@@ -1,7 +1,7 @@
 -- Replace on a tag file of sums: what it refuses, and that what it writes is the file of the sums with both hashes added. And how these sums
 -- combine: by XOR, which commutes and undoes itself.
 use Rattle.std.specs.Prelude.{◌≡◌, ◌∷◌, ◌++◌, ◌≤◌, if◌then◌else◌}
-use Rattle.fips197.proofs.Kit.{refl, sym, ap, ap₂, ◌∙◌, Bool, true, false, List, [], ℕ, arith, length, drop, eq-eqb, le-leb}
+use Rattle.fips197.proofs.Kit.{refl, sym, ap, ap₂, ◌∙◌, Bool, true, false, List, [], ℕ, length, drop, eq-eqb, le-leb}
 use Rattle.blocks.specs.Block.{Bytes, Block, ◌⊕◌}
 use Rattle.blocks.proofs.Xor.{⊕_assoc, ⊕_comm, ⊕-block, block_cancel}
 use Rattle.incidence.proofs.Booleans.{and_both}
