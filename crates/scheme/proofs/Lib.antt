@@ -8,3 +8,6 @@ pub mod Reloading
 pub mod Drifting
 pub mod Vacancies
 pub mod StarredCards
+pub mod FromSums
+pub mod Replacing
+pub mod Combining

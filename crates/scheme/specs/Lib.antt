@@ -2,3 +2,4 @@
 pub mod Calls
 pub mod Claim
 pub mod Starred
+pub mod Replacements
