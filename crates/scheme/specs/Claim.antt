@@ -60,7 +60,7 @@ marked marks j = eqb (get_or marks (j - 1) 0) 1
 
 -- Against an unaltered tag file: for every version, number and size code and all old items of the same count, where f is the unaltered tag
 -- file of the old items under these keys. Nothing is asked of the two numbers: that they are equal wherever a report is not refused is a
--- theorem (proofs/Guarantees.antt: same-number).
+-- theorem (proofs/Guarantees.antt: same_number).
 abbrev pub Against : List ℕ → List ℕ → List ℕ → (Head → (ℕ → List ℕ) → Type 0) → Type 0
 Against keys s f holds = (h : Head) (old : ℕ → List ℕ) → Unaltered (keys_in keys) h old f → h.count ≡ item_count s → holds h old
 
