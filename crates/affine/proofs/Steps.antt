@@ -7,10 +7,11 @@ use Rattle.incidence.proofs.Booleans.{and_false_l}
 use Rattle.incidence.proofs.Counting.{last_or}
 use Rattle.affine.specs.declared.Line.{Line}
 use Rattle.affine.specs.declared.Course.{Course}
+use Rattle.affine.specs.declared.Course.TheVariants.{Level, Sloped}
 use Rattle.affine.specs.Field.{offered, product, element_inverse}
 use Rattle.affine.specs.Lines.{points, row_count}
 use Rattle.affine.specs.Affine.{sized, is_tagged, affine_family}
-use Rattle.affine.specs.Walk.{firsts, course_of, place_on, met, through_count}
+use Rattle.affine.specs.Walk.{firsts, start_of, course_of, place_on, met, through_count}
 use Rattle.affine.proofs.FieldLaws.{Field, field}
 use Rattle.affine.proofs.Computing.{points_few, elements_few, sized-offered}
 use Rattle.affine.proofs.Meeting.{spot_high}
@@ -26,34 +27,24 @@ module _ (s : ℕ) (here : offered s ≡ true) where
   pub product-low : (a b : ℕ) → product s a b < 2 ^ s
   product-low = F.small
 
-  pub start_low : (L : Line) → (course_of s L).start < 2 ^ s
+  pub start_low : (L : Line) → start_of (course_of s L) < 2 ^ s
   unfolding course_of
   start_low L = go (eqb L.a 0)
     where
-      pick : Bool → Course
-      pick b =
-          if b then record { level = true; start = product s (element_inverse s L.b) L.c; slope = 0 } else
-          record { level = false; start = product s (element_inverse s L.a) L.c; slope = product s (element_inverse s L.a) L.b }
-
-      go : (b : Bool) → (pick b).start < 2 ^ s
+      go : (b : Bool) → start_of (if b then Level (product s (element_inverse s L.b) L.c) else Sloped (product s (element_inverse s L.a) L.c) (product s (element_inverse s L.a) L.b)) < 2 ^ s
       go true = product-low (element_inverse s L.b) L.c
       go false = product-low (element_inverse s L.a) L.c
 
-  module _ (C : Course) (t : ℕ) (low : C.start < 2 ^ s) (few : t < 2 ^ s) where
-    pub level_place : C.start * 2 ^ s + t + 1 ≤ points s
-    level_place = omega (arith, spot_high s F t C.start few low)
+  pub level_place : (y t : ℕ) → y < 2 ^ s → t < 2 ^ s → y * 2 ^ s + t + 1 ≤ points s
+  level_place y t low few = omega (arith, spot_high s F t y few low)
 
-    pub sloping_place : t * 2 ^ s + bit_xor C.start (product s C.slope t) + 1 ≤ points s
-    sloping_place = omega (arith, spot_high s F (bit_xor C.start (product s C.slope t)) t (xor_lt s _ _ low (product-low C.slope t)) few)
+  pub sloping_place : (start slope t : ℕ) → start < 2 ^ s → t < 2 ^ s → t * 2 ^ s + bit_xor start (product s slope t) + 1 ≤ points s
+  sloping_place start slope t low few = omega (arith, spot_high s F (bit_xor start (product s slope t)) t (xor_lt s _ _ low (product-low slope t)) few)
 
-    pub place_few : (1 ≤ place_on s C t) × (place_on s C t ≤ points s)
-    unfolding place_on
-    place_few = go C.level
-      where
-        go : (b : Bool) → (1 ≤ (if b then C.start * 2 ^ s + t + 1 else t * 2 ^ s + bit_xor C.start (product s C.slope t) + 1))
-            × ((if b then C.start * 2 ^ s + t + 1 else t * 2 ^ s + bit_xor C.start (product s C.slope t) + 1) ≤ points s)
-        go true = (omega arith, level_place)
-        go false = (omega arith, sloping_place)
+  pub place_few : (C : Course) (t : ℕ) → start_of C < 2 ^ s → t < 2 ^ s → (1 ≤ place_on s C t) × (place_on s C t ≤ points s)
+  unfolding place_on
+  place_few (Level y) t low few = (omega arith, level_place y t low few)
+  place_few (Sloped start slope) t low few = (omega arith, sloping_place start slope t low few)
 
 pub rows_before : (s : ℕ) → offered s ≡ true → (t : ℕ) → t < 2 ^ s → t * 2 ^ s ≤ 64
 rows_before s here t few = omega (arith, spot_high s (F s here) 0 t (omega arith) few, (points_few s here).1)

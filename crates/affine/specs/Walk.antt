@@ -1,9 +1,10 @@
 -- The points of a line and the lines through a point, in rising order, one after the other. What the functions of this crate ask of each
 -- other; no contract that another crate relies on cites it. Assumes nothing.
-use Rattle.std.specs.Prelude.{◌≡◌, true, false, List, [], ◌∷◌, ◌++◌, ℕ, zero, suc, ◌+◌, ◌-◌, ◌*◌, ◌/◌, ◌%◌, ◌^◌, eqb, length, get_or, take, drop, if◌then◌else◌}
+use Rattle.std.specs.Prelude.{◌≡◌, List, [], ◌∷◌, ◌++◌, ℕ, zero, suc, ◌+◌, ◌-◌, ◌*◌, ◌/◌, ◌%◌, ◌^◌, eqb, length, get_or, take, drop, if◌then◌else◌}
 use Rattle.std.specs.Int.Bits.{bit_xor}
 use Rattle.affine.specs.declared.Line.{Line}
 use Rattle.affine.specs.declared.Course.{Course}
+use Rattle.affine.specs.declared.Course.TheVariants.{Level, Sloped}
 use Rattle.affine.specs.Field.{product, element_inverse}
 use Rattle.affine.specs.Lines.{x_of, y_of}
 use Rattle.affine.specs.Affine.{affine_family}
@@ -16,12 +17,18 @@ firsts f (suc n) = firsts f n ++ (f n ∷ [])
 -- ax + by = c solved: where a is 0, y = c / b; else x = c / a + (b / a) y
 unfoldable pub course_of : ℕ → Line → Course
 course_of s L =
-    if eqb L.a 0 then record { level = true; start = product s (element_inverse s L.b) L.c; slope = 0 } else
-    record { level = false; start = product s (element_inverse s L.a) L.c; slope = product s (element_inverse s L.a) L.b }
+    if eqb L.a 0 then Level (product s (element_inverse s L.b) L.c) else
+    Sloped (product s (element_inverse s L.a) L.c) (product s (element_inverse s L.a) L.b)
+
+-- where it starts: its y, or its x at y = 0
+abbrev pub start_of : Course → ℕ
+start_of (Level y) = y
+start_of (Sloped start slope) = start
 
 -- its point at place t, from 0 to 2^s − 1: t is x where it is level, and y where it is not
 unfoldable pub place_on : ℕ → Course → ℕ → ℕ
-place_on s C t = if C.level then C.start * 2 ^ s + t + 1 else t * 2 ^ s + bit_xor C.start (product s C.slope t) + 1
+place_on s (Level y) t = y * 2 ^ s + t + 1
+place_on s (Sloped start slope) t = t * 2 ^ s + bit_xor start (product s slope t) + 1
 
 -- the entries, other than 0, of a table of points at the first n places
 unfoldable pub met : ℕ → Course → List ℕ → ℕ → List ℕ

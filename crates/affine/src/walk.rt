@@ -2,242 +2,221 @@
 // points gives the next tag or none; the lines through a row's point are had the same way, from the point's dual line.
 ghost use Rattle.std.specs.Prelude.{◌≡◌, true, ◌++◌, ◌^◌, ◌≤◌, ◌<◌, length, drop};
 ghost use Rattle.incidence.specs.Family.{items_of, tags_of};
-ghost use Rattle.affine.specs.Field.{offered};
 ghost use Rattle.affine.specs.Lines.{chosen, crossing, line_of};
-ghost use Rattle.affine.specs.Affine.{sized, affine_family};
-ghost use Rattle.affine.specs.Walk.{firsts, course_of, place_on, met, chosen_at, dual, through_count, through_at};
+ghost use Rattle.affine.specs.Affine.{affine_family};
+ghost use Rattle.affine.specs.Walk.{firsts, start_of, course_of, place_on, met, chosen_at, dual, through_count, through_at};
 
-use crate::{Course, Line, field, table};
+use crate::field::Field;
+use crate::{Affine, Course, Line, table};
+use incidence::{MADE_MOST, MOST, Rows};
 
-// ---- lines
-
-// The chosen line k, from 1: y = (k - 1) x, and last x = 0.
-fn chosen(s: usize, k: usize) -> Line
-    requires s_value { offered s ≡ true }
-    requires le_k { 1 ≤ k }
-    ensures { result ≡ chosen s k }
-{
-    if k <= field::elements(s) {
-        return Line {
-            a: k - 1,
-            b: 1,
-            c: 0,
-        };
-    }
-    Line { a: 1, b: 0, c: 0 }
-}
-
-// The line ax + by = 1 with a * 2^s + b = n.
-fn crossing(s: usize, n: usize) -> Line
-    requires { offered s ≡ true }
-    ensures { result ≡ crossing s n }
-{
-    let q = field::elements(s);
-    Line {
-        a: n / q,
-        b: n % q,
-        c: 1,
-    }
-}
-
-// The line of item j.
-fn line_of(s: usize, l: usize, j: usize) -> Line
-    requires s_value { offered s ≡ true }
-    requires le_j { 1 ≤ j }
-    ensures { result ≡ line_of s l j }
-{
-    if j <= l {
-        return chosen(s, j);
-    }
-    crossing(s, j - l)
-}
-
-// A line solved.
-fn course_of(s: usize, line: Line) -> Course
-    requires s_value { offered s ≡ true }
-    requires a_bound { (line.a < 2 ^ s) × (line.b < 2 ^ s) }
-    ensures { result ≡ course_of s line }
-{
-    if line.a == 0 {
-        return Course {
-            level: true,
-            start: field::product(s, field::inverse(s, line.b), line.c),
-            slope: 0,
-        };
-    }
-    let turned = field::inverse(s, line.a);
-    Course {
-        level: false,
-        start: field::product(s, turned, line.c),
-        slope: field::product(s, turned, line.b),
-    }
-}
-
-// Its point at place t, from 0.
-fn place_on(s: usize, course: Course, t: usize) -> usize
-    requires s_value { offered s ≡ true }
-    requires start_bound { (course.start < 2 ^ s) × (t < 2 ^ s) }
-    ensures { result ≡ place_on s course t }
-{
-    let q = field::elements(s);
-    if course.level {
-        return course.start * q + t + 1;
-    }
-    t * q + (course.start ^ field::product(s, course.slope, t)) + 1
-}
-
-// ---- tags of an item
-
-// Writes the entries, other than 0, of a table of points at the points of a course to the front of out.
-fn write_tags(s: usize, course: Course, tags: &[u8], out: &mut [usize]) -> usize
-    requires s_value { offered s ≡ true }
-    requires start_bound { (course.start < 2 ^ s) × (64 ≤ length tags.now) × (9 ≤ length out.old) }
-    ensures written { out.new ≡ met s course tags.now (2 ^ s) ++ drop (length (met s course tags.now (2 ^ s))) out.old }
-    ensures count { result ≡ length (met s course tags.now (2 ^ s)) }
-{
-    let q = field::elements(s);
-    let mut n = 0;
-    let mut t = 0;
-    while t < q {
-        let tag = table::read(tags, place_on(s, course, t) - 1);
-        if tag != 0 {
-            out[n] = tag;
-            n += 1;
+// Lines, by the field alone.
+impl Field {
+    // The chosen line k, from 1: y = (k - 1) x, and last x = 0.
+    fn chosen(self, k: usize) -> Line
+        requires { 1 ≤ k }
+        ensures { result ≡ chosen self.s k }
+    {
+        if k <= self.elements() {
+            return Line {
+                a: k - 1,
+                b: 1,
+                c: 0,
+            };
         }
-        t += 1;
+        Line { a: 1, b: 0, c: 0 }
     }
-    n
-}
 
-// Writes the tags whose rows hold item j, rising, to the front of out, and gives how many; what is behind them stays.
-pub fn tags_of(s: usize, l: usize, j: usize, out: &mut [usize]) -> usize
-    requires l_value { sized s l ≡ true }
-    requires in_bounds { 9 ≤ length out.old }
-    ensures written { out.new ≡ tags_of (affine_family s l) j ++ drop (length (tags_of (affine_family s l) j)) out.old }
-    ensures count { result ≡ length (tags_of (affine_family s l) j) }
-{
-    if incidence::inside(table::items(s, l), j) {
-        let all = table::POINT_TAGS;
-        write_tags(
-            s,
-            course_of(s, line_of(s, l, j)),
-            table::part(&all, s, l),
-            out,
-        )
-    } else {
-        0
+    // The line ax + by = 1 with a * 2^s + b = n.
+    fn crossing(self, n: usize) -> Line
+        ensures { result ≡ crossing self.s n }
+    {
+        let q = self.elements();
+        Line {
+            a: n / q,
+            b: n % q,
+            c: 1,
+        }
     }
-}
 
-// ---- items of a row
-
-// Which of the 2^s + 1 lines through the origin goes through another point p: x = 0, or y = kx with k = y / x.
-fn chosen_at(s: usize, p: usize) -> usize
-    requires s_value { offered s ≡ true }
-    requires le_p { 1 ≤ p }
-    ensures { result ≡ chosen_at s p }
-{
-    let q = field::elements(s);
-    let x = (p - 1) % q;
-    if x == 0 {
-        return q + 1;
+    // The line of item j.
+    fn line_of(self, l: usize, j: usize) -> Line
+        requires { 1 ≤ j }
+        ensures { result ≡ line_of self.s l j }
+    {
+        if j <= l {
+            return self.chosen(j);
+        }
+        self.crossing(j - l)
     }
-    field::product(s, field::inverse(s, x), (p - 1) / q) + 1
-}
 
-// The line on which point (b, a) is where the line ax + by = 1 goes through point p.
-fn dual(s: usize, p: usize) -> Line
-    requires s_value { offered s ≡ true }
-    requires le_p { 1 ≤ p }
-    ensures { result ≡ dual s p }
-{
-    let q = field::elements(s);
-    Line {
-        a: (p - 1) / q,
-        b: (p - 1) % q,
-        c: 1,
+    // A line solved.
+    fn course_of(self, line: Line) -> Course
+        requires { (line.a < 2 ^ self.s) × (line.b < 2 ^ self.s) }
+        ensures { result ≡ course_of self.s line }
+    {
+        if line.a == 0 {
+            return Course::Level {
+                y: self.product(self.inverse(line.b), line.c),
+            };
+        }
+        let turned = self.inverse(line.a);
+        Course::Sloped {
+            start: self.product(turned, line.c),
+            slope: self.product(turned, line.b),
+        }
     }
-}
 
-// How many items there are through point p, which is a row: at the origin the chosen lines, elsewhere one of them and 2^s others.
-fn item_count(s: usize, l: usize, p: usize) -> usize
-    requires { offered s ≡ true }
-    ensures { result ≡ through_count s l p }
-{
-    if p == 1 { l } else { field::elements(s) + 1 }
-}
-
-// The item at place k, from 0, of those through point p, which is a row and whose dual line is solved.
-fn item_at(s: usize, l: usize, p: usize, course: Course, k: usize) -> usize
-    requires l_value { sized s l ≡ true }
-    requires le_p { (1 ≤ p) × (course ≡ course_of s (dual s p)) × (k < through_count s l p) }
-    ensures { result ≡ through_at s l p k }
-{
-    if p == 1 {
-        return k + 1;
+    // Its point at place t, from 0.
+    fn place_on(self, course: Course, t: usize) -> usize
+        requires { (start_of course < 2 ^ self.s) × (t < 2 ^ self.s) }
+        ensures { result ≡ place_on self.s course t }
+    {
+        let q = self.elements();
+        match course {
+            Course::Level { y } => y * q + t + 1,
+            Course::Sloped { start, slope } => t * q + (start ^ self.product(slope, t)) + 1,
+        }
     }
-    if k == 0 {
-        return chosen_at(s, p);
-    }
-    l + place_on(s, course, k - 1) - 1
-}
 
-// Writes the items through point p, which is a row, to the front of out.
-fn write_items(s: usize, l: usize, p: usize, course: Course, out: &mut [usize]) -> usize
-    requires l_value { sized s l ≡ true }
-    requires le_p { (1 ≤ p) × (course ≡ course_of s (dual s p)) }
-    requires in_bounds { 9 ≤ length out.old }
-    ensures written { out.new ≡ firsts (through_at s l p) (through_count s l p) ++ drop (through_count s l p) out.old }
-    ensures count { result ≡ through_count s l p }
-{
-    let n = item_count(s, l, p);
-    let mut k = 0;
-    while k < n {
-        out[k] = item_at(s, l, p, course, k);
-        k += 1;
+    // Writes the entries, other than 0, of a table of points at the points of a course to the front of out.
+    fn write_tags(self, course: Course, tags: &[u8], out: &mut [usize; MOST]) -> usize
+        requires { (start_of course < 2 ^ self.s) × (64 ≤ length tags.now) }
+        ensures written { out.new ≡ met self.s course tags.now (2 ^ self.s) ++ drop (length (met self.s course tags.now (2 ^ self.s))) out.old }
+        ensures count { result ≡ length (met self.s course tags.now (2 ^ self.s)) }
+    {
+        let q = self.elements();
+        let mut n = 0;
+        for t in 0..q {
+            let tag = usize::from(tags[self.place_on(course, t) - 1]);
+            if tag != 0 {
+                out[n] = tag;
+                n += 1;
+            }
+        }
+        n
     }
-    n
-}
 
-// Writes the items that row i holds, rising, to the front of out, and gives how many; what is behind them stays.
-pub fn items_of(s: usize, l: usize, i: usize, out: &mut [usize]) -> usize
-    requires l_value { sized s l ≡ true }
-    requires in_bounds { 9 ≤ length out.old }
-    ensures written { out.new ≡ items_of (affine_family s l) i ++ drop (length (items_of (affine_family s l) i)) out.old }
-    ensures count { result ≡ length (items_of (affine_family s l) i) }
-{
-    if incidence::inside(table::rows(s, l), i) {
-        let p = table::point_of(s, l, i);
-        write_items(s, l, p, course_of(s, dual(s, p)), out)
-    } else {
-        0
+    // Which of the 2^s + 1 lines through the origin goes through another point p: x = 0, or y = kx with k = y / x.
+    fn chosen_at(self, p: usize) -> usize
+        requires { 1 ≤ p }
+        ensures { result ≡ chosen_at self.s p }
+    {
+        let q = self.elements();
+        let x = (p - 1) % q;
+        if x == 0 {
+            return q + 1;
+        }
+        self.product(self.inverse(x), (p - 1) / q) + 1
+    }
+
+    // The line on which point (b, a) is where the line ax + by = 1 goes through point p.
+    fn dual(self, p: usize) -> Line
+        requires { 1 ≤ p }
+        ensures { result ≡ dual self.s p }
+    {
+        let q = self.elements();
+        Line {
+            a: (p - 1) / q,
+            b: (p - 1) % q,
+            c: 1,
+        }
     }
 }
 
-// ---- tags and made rows
+// The lists that go by s and l.
+impl Affine {
+    // How many items there are through point p, which is a row: at the origin the chosen lines, elsewhere one of them and 2^s others.
+    fn item_count(&self, p: usize) -> usize
+        ensures { result ≡ through_count self.now.field.s self.now.l p }
+    {
+        if p == 1 {
+            self.l
+        } else {
+            self.field.elements() + 1
+        }
+    }
 
-// The tag of row i, 0 where it has none.
-pub fn tag_of_row(s: usize, l: usize, i: usize) -> usize
-    requires { sized s l ≡ true }
-    ensures { result ≡ (affine_family s l).tag_of_row i }
-{
-    if incidence::inside(table::rows(s, l), i) {
-        table::row_tag(s, l, i)
-    } else {
-        0
+    // The item at place k, from 0, of those through point p, which is a row and whose dual line is solved.
+    fn item_at(&self, p: usize, course: Course, k: usize) -> usize
+        requires { (1 ≤ p) × (course ≡ course_of self.now.field.s (dual self.now.field.s p)) × (k < through_count self.now.field.s self.now.l p) }
+        ensures { result ≡ through_at self.now.field.s self.now.l p k }
+    {
+        if p == 1 {
+            return k + 1;
+        }
+        if k == 0 {
+            return self.field.chosen_at(p);
+        }
+        self.l + self.field.place_on(course, k - 1) - 1
+    }
+
+    // Writes the items through point p, which is a row, to the front of out.
+    fn write_items(&self, p: usize, course: Course, out: &mut [usize; MOST]) -> usize
+        requires le_p { (1 ≤ p) × (course ≡ course_of self.now.field.s (dual self.now.field.s p)) }
+        ensures written { out.new ≡ firsts (through_at self.now.field.s self.now.l p) (through_count self.now.field.s self.now.l p) ++ drop (through_count self.now.field.s self.now.l p) out.old }
+        ensures count { result ≡ through_count self.now.field.s self.now.l p }
+    {
+        let n = self.item_count(p);
+        for k in 0..n {
+            out[k] = self.item_at(p, course, k);
+        }
+        n
     }
 }
 
-// Writes the rows that row i is made of to the front of out, and gives how many; none where it has a tag. What is behind them stays.
-pub fn made_of(s: usize, l: usize, i: usize, out: &mut [u16]) -> usize
-    requires l_value { sized s l ≡ true }
-    requires in_bounds { 35 ≤ length out.old }
-    ensures written { out.new ≡ (affine_family s l).made i ++ drop (length ((affine_family s l).made i)) out.old }
-    ensures count { result ≡ length ((affine_family s l).made i) }
-{
-    if incidence::inside(table::rows(s, l), i) {
-        table::made_of(s, l, i, out)
-    } else {
-        0
+impl Rows for Affine {
+    ghost family = { λ a. affine_family a.field.s a.l };
+
+    fn items(&self) -> usize {
+        let q = self.field.elements();
+        self.l + (q * q - 1)
+    }
+
+    fn rows(&self) -> usize {
+        self.l * (self.field.elements() - 1) + 1
+    }
+
+    fn tags(&self) -> usize {
+        self.tag_count()
+    }
+
+    fn limit(&self) -> usize {
+        self.l - 2
+    }
+
+    fn tags_of(&self, item: usize, out: &mut [usize; MOST]) -> usize {
+        if incidence::inside(self.items(), item) {
+            let all = table::POINT_TAGS;
+            let course = self.field.course_of(self.field.line_of(self.l, item));
+            self.field.write_tags(course, self.part(&all), out)
+        } else {
+            0
+        }
+    }
+
+    fn items_of(&self, row: usize, out: &mut [usize; MOST]) -> usize {
+        if incidence::inside(self.rows(), row) {
+            let p = self.point_of(row);
+            self.write_items(p, self.field.course_of(self.field.dual(p)), out)
+        } else {
+            0
+        }
+    }
+
+    fn tag_of_row(&self, row: usize) -> usize {
+        if incidence::inside(self.rows(), row) {
+            self.row_tag(row)
+        } else {
+            0
+        }
+    }
+
+    fn made_of(&self, row: usize, out: &mut [u16; MADE_MOST]) -> usize {
+        if incidence::inside(self.rows(), row) {
+            self.made_at(row, out)
+        } else {
+            0
+        }
     }
 }

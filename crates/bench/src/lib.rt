@@ -3,10 +3,12 @@
 // `out` is as it was.
 #![tactic(auto)]
 
-ghost use Rattle.std.specs.Prelude.{◌≤◌, length};
+ghost use Rattle.std.specs.Prelude.{◌≤◌, length, OnSome};
 
 use blocks::block::{block_at, copy_blocks, put, put_at};
 use cipher::{aes, cmac, engine};
+
+// (The room is a premise of each: the exports look at it, by `key_in`, and answer 0 or 1, since C reads that.)
 
 // Enciphers each block of input into out: copied, then all in place.
 fn encipher_blocks(key: [u8; 16], input: &[u8], out: &mut [u8])
@@ -35,18 +37,22 @@ fn plain_expand(key: [u8; 16]) -> [u8; 176] {
     plain::schedule::expand(&t, key)
 }
 
+// Turns each block of input into out.
+fn turn_blocks<F: Fn([u8; 16]) -> [u8; 16]>(input: &[u8], out: &mut [u8], turn: F)
+    requires callable { F.IsAlwaysCallable turn }
+    requires room { length input.now ≤ length out.old }
+{
+    for n in 0..input.len() / 16 {
+        put_at(out, 16 * n, turn(block_at(input, 16 * n)));
+    }
+}
+
 // Enciphers each block of input into out by the plain engine, with its table taken once.
 fn plain_encipher_blocks(w: [u8; 176], input: &[u8], out: &mut [u8])
     requires { length input.now ≤ length out.old }
 {
     let t = fips197::sbox::table();
-    let count = input.len() / 16;
-    let mut n = 0;
-    while n < count {
-        let block = block_at(input, 16 * n);
-        put_at(out, 16 * n, plain::rounds::cipher(&t, &w, block));
-        n += 1;
-    }
+    turn_blocks(input, out, |block| plain::rounds::cipher(&t, &w, block));
 }
 
 // Deciphers each block of input into out by the plain engine, with its table taken once.
@@ -54,104 +60,87 @@ fn plain_decipher_blocks(w: [u8; 176], input: &[u8], out: &mut [u8])
     requires { length input.now ≤ length out.old }
 {
     let t = fips197::inv_sbox::table();
-    let count = input.len() / 16;
-    let mut n = 0;
-    while n < count {
-        let block = block_at(input, 16 * n);
-        put_at(out, 16 * n, plain::rounds::inv_cipher(&t, &w, block));
-        n += 1;
+    turn_blocks(input, out, |block| plain::rounds::inv_cipher(&t, &w, block));
+}
+
+// The key, if it is 16 bytes long and out has so much room.
+fn key_in(key: &[u8], out: &[u8], room: usize) -> Option<[u8; 16]>
+    ensures { OnSome result (room ≤ length out.now) }
+{
+    if key.len() != 16 || out.len() < room {
+        return None;
     }
+    Some(block_at(key, 0))
 }
 
 // CMAC of a message. out has room for 16 bytes.
 #[unsafe(no_mangle)]
 pub extern "C" fn bench_cmac(key: &[u8], message: &[u8], out: &mut [u8]) -> u64 {
-    if key.len() != 16 {
+    let Some(key) = key_in(key, out, 16) else {
         return 0;
-    }
-    if out.len() < 16 {
-        return 0;
-    }
-    put(out, cmac::cmac(block_at(key, 0), message));
+    };
+    put(out, cmac::cmac(key, message));
     1
 }
 
 // Enciphers every whole block of the input, the key expanded once. out has room for the input.
 #[unsafe(no_mangle)]
 pub extern "C" fn bench_encipher(key: &[u8], input: &[u8], out: &mut [u8]) -> u64 {
-    if key.len() != 16 {
+    let Some(key) = key_in(key, out, input.len()) else {
         return 0;
-    }
-    if out.len() < input.len() {
-        return 0;
-    }
-    encipher_blocks(block_at(key, 0), input, out);
+    };
+    encipher_blocks(key, input, out);
     1
 }
 
 // Deciphers every whole block of the input, the key expanded once. out has room for the input.
 #[unsafe(no_mangle)]
 pub extern "C" fn bench_decipher(key: &[u8], input: &[u8], out: &mut [u8]) -> u64 {
-    if key.len() != 16 {
+    let Some(key) = key_in(key, out, input.len()) else {
         return 0;
-    }
-    if out.len() < input.len() {
-        return 0;
-    }
-    decipher_blocks(block_at(key, 0), input, out);
+    };
+    decipher_blocks(key, input, out);
     1
 }
 
 // Enciphers every whole block of the input, the key expanded once, by the plain engine. out has room for the input.
 #[unsafe(no_mangle)]
 pub extern "C" fn bench_plain_encipher(key: &[u8], input: &[u8], out: &mut [u8]) -> u64 {
-    if key.len() != 16 {
+    let Some(key) = key_in(key, out, input.len()) else {
         return 0;
-    }
-    if out.len() < input.len() {
-        return 0;
-    }
-    plain_encipher_blocks(plain_expand(block_at(key, 0)), input, out);
+    };
+    plain_encipher_blocks(plain_expand(key), input, out);
     1
 }
 
 // Deciphers every whole block of the input, the key expanded once, by the plain engine. out has room for the input.
 #[unsafe(no_mangle)]
 pub extern "C" fn bench_plain_decipher(key: &[u8], input: &[u8], out: &mut [u8]) -> u64 {
-    if key.len() != 16 {
+    let Some(key) = key_in(key, out, input.len()) else {
         return 0;
-    }
-    if out.len() < input.len() {
-        return 0;
-    }
-    plain_decipher_blocks(plain_expand(block_at(key, 0)), input, out);
+    };
+    plain_decipher_blocks(plain_expand(key), input, out);
     1
 }
 
 // Expands the key and enciphers the block at the front of out.
 #[unsafe(no_mangle)]
 pub extern "C" fn bench_setup(key: &[u8], out: &mut [u8]) -> u64 {
-    if key.len() != 16 {
+    let Some(key) = key_in(key, out, 16) else {
         return 0;
-    }
-    if out.len() < 16 {
-        return 0;
-    }
+    };
     let block = block_at(out, 0);
-    put(out, aes::encipher(block_at(key, 0), block));
+    put(out, aes::encipher(key, block));
     1
 }
 
 // Expands the key and enciphers the block at the front of out by the plain engine.
 #[unsafe(no_mangle)]
 pub extern "C" fn bench_plain_setup(key: &[u8], out: &mut [u8]) -> u64 {
-    if key.len() != 16 {
+    let Some(key) = key_in(key, out, 16) else {
         return 0;
-    }
-    if out.len() < 16 {
-        return 0;
-    }
+    };
     let block = block_at(out, 0);
-    put(out, plain::encipher(block_at(key, 0), block));
+    put(out, plain::encipher(key, block));
     1
 }

@@ -1,6 +1,7 @@
 -- Big-endian numbers and their bytes: each gives the other back; lengths and byte ranges; XOR byte by byte.
 use Rattle.std.specs.Prelude.{◌≡◌, ◌∷◌, ◌++◌, ◌+◌, ◌*◌, ◌/◌, ◌%◌, ◌^◌, ◌≤◌, ◌<◌}
-use Rattle.fips197.proofs.Kit.{refl, sym, ap, ap₂, ◌∙◌, subst, List, [], ℕ, zero, suc, mod-lt, zero-lt-suc, pow-suc, mul_assoc, mul_comm, div-lt_iff_lt-mul, div-div-eq-div-mul, mod-eq_of_lt, pow_pos, add-one, arith, length, get_or, take, length-append, List·getD-append, get_or-append-add, take-suc, take_all, bit_xor, xor_shr, xor_mod}
+use Rattle.fips197.proofs.Kit.{refl, sym, ap, ap₂, ◌∙◌, subst, List, [], ℕ, zero, suc, mod-lt, zero-lt-suc, pow-suc, mul_assoc, mul_comm, div-lt_iff_lt-mul, div-div-eq-div-mul, add-one, arith, length, get_or, take, length-append, List·getD-append, get_or-append-add, take-suc, take_all, bit_xor, xor_shr, xor_mod}
+use Rattle.std.specs.Int.{bytes_high_first, byte_at as std_byte}
 use Rattle.blocks.specs.Block.{Bytes, ◌⊕◌, zeros}
 use Rattle.blocks.specs.Number.{number_of, number, big_endian}
 use Rattle.blocks.proofs.Xor.{append-bytes, byte_at}
@@ -138,27 +139,21 @@ big_endian_pair a b =
     pair_below a (b % 4294967296) (omega arith)
     ∙ ap (λ (t : List ℕ). big_endian 4 a ++ t) (sym (ap (big_endian 4) e ∙ big_endian-over 4 (b / 4294967296) (b % 4294967296)))
 
--- the eight bytes of a number of 64 bits, as the code computes them
-pub big_endian-8 : (n : ℕ) → n < 2 ^ 64
-    → ◌≡◌ {A = List ℕ}
-    (n / 72057594037927936 ∷ n / 281474976710656 % 256 ∷ n / 1099511627776 % 256 ∷ n / 4294967296 % 256 ∷
-    n / 16777216 % 256 ∷ n / 65536 % 256 ∷ n / 256 % 256 ∷ n % 256 ∷ []) (big_endian 8 n)
-unfolding big_endian
-big_endian-8 n h =
-    let e2 = over 256 1 refl in
-    let e3 = over 65536 2 e2 in
-    let e4 = over 16777216 3 e3 in
-    let e5 = over 4294967296 4 e4 in
-    let e6 = over 1099511627776 5 e5 in
-    let e7 = over 281474976710656 6 e6 in
-    let top : n / 72057594037927936 < 256 = (div-lt_iff_lt-mul (pow_pos 56)).1 h in
-    (λ i. (sym (mod-eq_of_lt top) ∙ ap (λ (m : ℕ). m % 256) (sym e7)) i ∷ sym e6 i % 256 ∷ sym e5 i % 256 ∷ sym e4 i % 256 ∷
-    sym e3 i % 256 ∷ sym e2 i % 256 ∷ n / 256 % 256 ∷ n % 256 ∷ [])
-  where
-    -- n divided k times by 256
-    quotient : ℕ → ℕ
-    quotient zero = n
-    quotient (suc k) = quotient k / 256
+-- ---- the library's bytes of a number
 
-    over : (d k : ℕ) → quotient k ≡ n / d → quotient (suc k) ≡ n / (d * 256)
-    over d k e = ap (λ (m : ℕ). m / 256) e ∙ div-div-eq-div-mul n d 256
+byte_up : (k n : ℕ) → std_byte k (n / 256) ≡ std_byte (suc k) n
+byte_up zero n = refl
+byte_up (suc k) n =
+    ap (λ (m : ℕ). m % 256)
+    (div-div-eq-div-mul n 256 (256 ^ suc k) ∙ ap (λ (m : ℕ). n / m) (mul_comm 256 (256 ^ suc k) ∙ sym (pow-suc 256 (suc k))))
+
+big_endian-top : (k n : ℕ) → big_endian (suc k) n ≡ std_byte k n ∷ big_endian k n
+unfolding big_endian
+big_endian-top zero n = refl
+big_endian-top (suc k) n =
+    ap (λ (t : List ℕ). t ++ (n % 256 ∷ [])) (big_endian-top k (n / 256)) ∙ ap (λ (b : ℕ). b ∷ big_endian (suc k) n) (byte_up k n)
+
+pub high_first : (k n : ℕ) → bytes_high_first k n ≡ big_endian k n
+unfolding big_endian
+high_first zero n = refl
+high_first (suc k) n = ap (λ (t : List ℕ). std_byte k n ∷ t) (high_first k n) ∙ sym (big_endian-top k n)

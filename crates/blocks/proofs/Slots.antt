@@ -1,6 +1,6 @@
 -- Blocks one after another in a list: writing one leaves the others, and a walk writes them all.
 use Rattle.std.specs.Prelude.{◌≡◌, ◌++◌, ◌⊎◌, ◌+◌, ◌-◌, ◌*◌, ◌≤◌, ◌<◌}
-use Rattle.fips197.proofs.Kit.{refl, sym, ap, ap₂, ◌∙◌, List, append_assoc, inl, inr, ℕ, zero, suc, le_of_suc-le-suc, eq-or-lt_of_le, arith, add-one, length, take, drop, length-append, length-take, length-drop, take-append-drop, take-append-le, drop-append-le, drop-append-add, drop_at, take_at, drop-drop}
+use Rattle.fips197.proofs.Kit.{refl, sym, ap, ap₂, ◌∙◌, List, append_assoc, inl, inr, ℕ, zero, suc, le_of_suc-le-suc, eq-or-lt_of_le, arith, add-one, length, take, drop, length-append, length-take, length-drop, take-append-drop, take-append-le, take-add, drop-append-le, drop-append-add, drop_at, take_at, drop-drop}
 use Rattle.blocks.specs.Block.{slot, list_of}
 
 pub slot-length : (s : List ℕ) (k : ℕ) → 16 * k + 16 ≤ length s → length (slot s k) ≡ 16
@@ -109,6 +109,14 @@ place-next g o k out b r out' F h eb er l e =
     front-next (λ i. g i (slot o i)) o k out r out' F h (er ∙ ap (g k) (eb ∙ front_here (λ i. g i (slot o i)) o k out F)) l e
 
 -- ---- lists of blocks
+
+-- the first n blocks of a list are its first 16 n elements
+pub slots_front : (s : List ℕ) (n : ℕ) → list_of (slot s) n ≡ take (16 * n) s
+unfolding list_of slot
+slots_front s zero = refl
+slots_front s (suc n) =
+    let e : 16 * n + 16 ≡ 16 * suc n = omega arith in
+    ap (λ (t : List ℕ). t ++ take 16 (drop (16 * n) s)) (slots_front s n) ∙ sym (take-add (16 * n) 16 s) ∙ ap (λ (k : ℕ). take k s) e
 
 pub list_of-length : (f : ℕ → List ℕ) (n : ℕ) → ((k : ℕ) → k < n → length (f k) ≡ 16) → length (list_of f n) ≡ 16 * n
 unfolding list_of

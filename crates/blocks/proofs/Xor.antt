@@ -1,6 +1,8 @@
 -- The laws of XOR and of bytes (fips197's Xor), passed on for the crates above; and equality of lists, as `same` decides it.
 use Rattle.std.specs.Prelude.{◌≡◌, ◌&&◌, ◌∷◌, ◌+◌, ◌≤◌, ◌<◌}
-use Rattle.fips197.proofs.Kit.{refl, sym, ap, ap₂, ◌∙◌, Bool, true, false, List, [], ℕ, arith, add-one, eqb, length, get_or, drop, drop_of_length-le, drop-cons, eqb-true, eq-eqb, ne_eqb}
+use Rattle.fips197.proofs.Kit.{refl, sym, ap, ap₂, ◌∙◌, Bool, true, false, List, [], ℕ, arith, add-one, eqb, length, get_or, drop, drop_of_length-le, drop-cons, eqb-true, eq-eqb}
+use Rattle.std.specs.Prelude.{nat_eq}
+use Rattle.std.specs.Cmp.Lexicographic.{pointwise}
 use Rattle.blocks.specs.Block.{◌⊕◌, zeros, same}
 pub use Rattle.fips197.proofs.Xor.{⊕_comm, ⊕_assoc, ⊕-length, ⊕_cancel, ⊕_self, ⊕-zeros, ⊕-at, ⊕-bytes, ⊕-block, block_cancel}
 pub use Rattle.fips197.proofs.Xor.{byte_at, bytes_from, append-bytes, take-bytes, drop-bytes, zeros-bytes, zeros-block}
@@ -29,6 +31,14 @@ same_refl (x ∷ xs) = ap₂ ◌&&◌ (eq-eqb x x refl) (same_refl xs)
 pub same_eq : (a b : List ℕ) → a ≡ b → same a b ≡ true
 same_eq a b e = ap (same a) (sym e) ∙ same_refl a
 
+-- as the library compares them
+pub pointwise-same : (a b : List ℕ) → pointwise nat_eq a b ≡ same a b
+unfolding same
+pointwise-same [] [] = refl
+pointwise-same [] (y ∷ ys) = refl
+pointwise-same (x ∷ xs) [] = refl
+pointwise-same (x ∷ xs) (y ∷ ys) = ap (λ (t : Bool). nat_eq x y && t) (pointwise-same xs ys)
+
 -- lists from their first i elements on, which were equal, compare as their next elements and the rest do
 pub same_drop : (a b : List ℕ) (i : ℕ) → i < length a → i < length b
     → same (drop i a) (drop i b) ≡ (eqb (get_or a i 0) (get_or b i 0) && same (drop (i + 1) a) (drop (i + 1) b))
@@ -36,12 +46,6 @@ unfolding same
 same_drop a b i h k =
     ap₂ same (drop-cons a i 0 h) (drop-cons b i 0 k)
     ∙ ap (λ (j : ℕ). eqb (get_or a i 0) (get_or b i 0) && same (drop j a) (drop j b)) (sym (add-one i))
-
-pub same_more : (a b : List ℕ) (i : ℕ) → i < length a → i < length b → get_or a i 0 ≡ get_or b i 0 → same (drop i a) (drop i b) ≡ same (drop (i + 1) a) (drop (i + 1) b)
-same_more a b i h k e = same_drop a b i h k ∙ ap (λ (t : Bool). t && same (drop (i + 1) a) (drop (i + 1) b)) (eq-eqb (get_or a i 0) (get_or b i 0) e)
-
-pub same_stop : (a b : List ℕ) (i : ℕ) → i < length a → i < length b → (get_or a i 0 ≡ get_or b i 0 → ⊥) → same (drop i a) (drop i b) ≡ false
-same_stop a b i h k e = same_drop a b i h k ∙ ap (λ (t : Bool). t && same (drop (i + 1) a) (drop (i + 1) b)) (ne_eqb (get_or a i 0) (get_or b i 0) e)
 
 pub same_end : (a b : List ℕ) (i : ℕ) → length a ≤ i → length b ≤ i → same (drop i a) (drop i b) ≡ true
 unfolding same

@@ -5,12 +5,12 @@ use Rattle.incidence.specs.Count.{inside}
 use Rattle.incidence.proofs.Counting.{inside-low, inside-high}
 use Rattle.sizes.specs.Sizes.{known, family_of}
 use Rattle.stamp.specs.Front.{stamp_of}
-use Rattle.files.specs.declared.Refusal.{Refusal}
+use Rattle.files.specs.Refusals.{Refusal}
 use Rattle.files.specs.Message.{item_count, refuse3, refuse5, refuse8, Sound}
 use Rattle.files.specs.TagFile.{file_size, code_of, count_of, head_of, count_fits, Formed}
 use Rattle.files.specs.Arguments.{refuse1, refuse2, refuse4, refuse7, refuse9}
 use Rattle.incidence.proofs.Booleans.{and_left, and_right}
-use Rattle.files.proofs.Passing.{rest-passes, unless-passes, number_of}
+use Rattle.files.proofs.Passing.{rest-passes, unless-passes, number_along}
 use Rattle.files.proofs.Messages.{plain3, plain5, headed}
 use Rattle.files.proofs.Accepted.{formed}
 use Rattle.tagging.specs.Tagging.{tag_head}
@@ -46,7 +46,7 @@ module _ (f : List ℕ) (F : Formed f) where
 pub taggable : (keys : List ℕ) (c : ℕ) (s : List ℕ) (room : ℕ) (r : Refusal) → r ≡ tag_refusal keys c s room → r.number ≡ 0 → Taggable keys c s room
 unfolding tag_refusal refuse2 refuse4
 taggable keys c s room r e h =
-    let a = rest-passes _ _ (number_of r _ e h) in
+    let a = rest-passes _ _ (number_along r _ e h) in
     let b = rest-passes _ _ a.1 in
     let d = rest-passes _ _ b.1 in
     let f = rest-passes _ _ d.1 in
@@ -64,7 +64,7 @@ taggable keys c s room r e h =
 pub comparable : (keys s f : List ℕ) (r : Refusal) → r ≡ verify_refusal keys s f → r.number ≡ 0 → Comparable keys s f
 unfolding verify_refusal refuse21 refuse25
 comparable keys s f r e h =
-    let a = rest-passes _ _ (number_of r _ e h) in
+    let a = rest-passes _ _ (number_along r _ e h) in
     let b = rest-passes _ _ a.1 in
     let c = rest-passes _ _ b.1 in
     let d = rest-passes _ _ c.1 in
@@ -81,14 +81,14 @@ comparable keys s f r e h =
 pub reportable : (keys s f : List ℕ) (room : ℕ) (r : Refusal) → r ≡ report_refusal keys s f room → r.number ≡ 0 → Reportable keys s f room
 unfolding report_refusal
 reportable keys s f room r e h =
-    let a = rest-passes _ _ (number_of r _ e h) in
+    let a = rest-passes _ _ (number_along r _ e h) in
     record { files = comparable keys s f (verify_refusal keys s f) refl a.0; fits = roomy (item_count s) room (rest-passes _ _ a.1).0 }
 
 pub replaceable : (keys f : List ℕ) (j : ℕ) (old new : List ℕ) (room : ℕ) (r : Refusal) → r ≡ replace_refusal keys f j old new room → r.number ≡ 0
     → Replaceable keys f j old new room
 unfolding replace_refusal refuse8 refuse9
 replaceable keys f j old new room r e h =
-    let a = rest-passes _ _ (number_of r _ e h) in
+    let a = rest-passes _ _ (number_along r _ e h) in
     let b = rest-passes _ _ a.1 in
     let c = rest-passes _ _ b.1 in
     let d = rest-passes _ _ c.1 in

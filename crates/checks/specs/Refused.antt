@@ -2,7 +2,7 @@
 -- order; the first that applies is returned. `room` is the length of the buffer lent. Assumes nothing.
 use Rattle.std.specs.Prelude.{List, [], ◌∷◌, ℕ, eqb, length}
 use Rattle.stamp.specs.Front.{stamp_of}
-use Rattle.files.specs.declared.Refusal.{Refusal}
+use Rattle.files.specs.Refusals.{Refusal}
 use Rattle.files.specs.Refusals.{unless, first}
 use Rattle.files.specs.Message.{item_count, refuse3, refuse5, refuse8}
 use Rattle.files.specs.TagFile.{file_size, count_of, head_of, refuse6, refuse20}

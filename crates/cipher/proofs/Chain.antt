@@ -1,10 +1,11 @@
 -- CMAC: padding, the last block, the chain over the message laid out, and the sizes.
 use Rattle.std.specs.Prelude.{◌≡◌, ◌∷◌, ◌++◌, ◌+◌, ◌-◌, ◌*◌, ◌/◌, ◌≤◌, ◌<◌, if◌then◌else◌}
-use Rattle.fips197.proofs.Kit.{refl, sym, ap, ap₂, ◌∙◌, Bool, true, false, List, [], ℕ, zero, suc, arith, eqb, length, get_or, take, drop, length-append, length-drop, length-take, length-replicate, get_or-replicate, List·getD-append, get_or-append_seam, append_assoc, append_snoc, take-add, take_at, take-take, take_all, take-append-drop, ext_get_or, get_or-drop, drop_at, lt_of_le-ne, eq-eqb, ne_eqb, eqb-true, eqb-false}
+use Rattle.fips197.proofs.Kit.{refl, sym, ap, ap₂, ◌∙◌, Bool, true, false, List, [], ℕ, zero, suc, arith, eqb, length, get_or, set, take, drop, length-append, length-drop, length-take, length-replicate, get_or-replicate, get_or-append_seam, append_assoc, append_snoc, take-add, take_at, take-take, take_all, take-append-drop, ext_get_or, get_or-drop, drop_at, lt_of_le-ne, eq-eqb, ne_eqb, eqb-true, eqb-false}
 use Rattle.blocks.specs.Block.{Bytes, Block, ◌⊕◌, zeros}
 use Rattle.blocks.specs.Chain.{chain}
 use Rattle.cipher.specs.Cmac.{subkey1, subkey2, block_count, padded, last_block, laid_out, mac_by}
 use Rattle.blocks.proofs.Chaining.{chain_next, chain-front}
+use Rattle.blocks.proofs.Loop.{part_turn}
 use Rattle.blocks.proofs.Xor.{⊕-length, ⊕-block, zeros-block, zeros-bytes, take-bytes, drop-bytes, append-bytes}
 use Rattle.blocks.proofs.Doubling.{double-block}
 
@@ -13,10 +14,6 @@ use Rattle.blocks.proofs.Doubling.{double-block}
 pub padded-length : (l : List ℕ) → length l < 16 → length (padded l) ≡ 16
 unfolding padded
 padded-length l h = length-append l (128 ∷ zeros (15 - length l)) ∙ simp length-replicate (omega arith)
-
-pub padded-at : (l : List ℕ) (i : ℕ) → i < length l → get_or (padded l) i 0 ≡ get_or l i 0
-unfolding padded
-padded-at l i h = List·getD-append l (128 ∷ zeros (15 - length l)) 0 i h
 
 pub padded_mark : (l : List ℕ) → get_or (padded l) (length l) 0 ≡ 128
 unfolding padded
@@ -40,6 +37,16 @@ padded_end l h =
     ∙ take_at (l ++ (128 ∷ [])) (zeros (15 - length l)) (length l + 1) (length-append l (128 ∷ [])))
     (drop-zeros (length l + 1) 16 ∙ ap (λ (k : ℕ). zeros k) e)
     ∙ append_snoc l 128 (zeros (15 - length l))
+
+-- the message in front of zeros, and the mark behind it
+pub padded_set : (l : List ℕ) → length l < 16 → set (l ++ drop (length l) (zeros 16)) (length l) 128 ≡ padded l
+unfolding padded
+padded_set l h =
+    let p : length (padded l) ≡ 16 = padded-length l h in
+    part_turn (length l) (padded l) (zeros 16) _ 128 (front l) h (omega arith) (sym (padded_mark l)) ∙ padded_end l h
+  where
+    front : (l : List ℕ) → l ++ drop (length l) (zeros 16) ≡ take (length l) (padded l) ++ drop (length l) (zeros 16)
+    front l = ap (λ (t : List ℕ). t ++ drop (length l) (zeros 16)) (sym (take_at l (128 ∷ zeros (15 - length l)) (length l) refl))
 
 padded-block : (l : List ℕ) → Bytes l → length l < 16 → Block (padded l)
 unfolding padded

@@ -4,7 +4,6 @@
 ghost use Rattle.std.specs.Prelude.{◌≡◌, List, ◌++◌, ℕ, ◌*◌, ◌≤◌, length, drop};
 ghost use Rattle.blocks.specs.Block.{Block, slot, list_of};
 ghost use Rattle.cipher.specs.Aes.{sbox, key_expansion, cipher, encipher, decipher};
-ghost use Rattle.cipher.specs.Engine.{EngineTables};
 
 use crate::engine;
 use crate::engine::Tables;
@@ -16,7 +15,7 @@ pub fn sub_byte(b: u8) -> u8
     ensures { result ≡ sbox b }
 {
     let t = sbox::table();
-    sbox::lookup(&t, b)
+    sbox::lookup(&t.bytes, b)
 }
 
 // The expanded key, for a caller who has not taken the tables.
@@ -27,36 +26,25 @@ pub fn key_expansion(key: [u8; 16]) -> [u8; 176]
     engine::expand(&t, key)
 }
 
-// Enciphers a block with an expanded key, read where it lies.
-fn encipher_by(t: &Tables, w: &[u8; 176], block: [u8; 16]) -> [u8; 16]
-    requires engine_tables { EngineTables t.now }
-    requires w_len { length w.now ≡ 176 }
+// Enciphers a block with an expanded key.
+pub fn encipher_with(t: &Tables, w: &[u8; 176], block: [u8; 16]) -> [u8; 16]
     ensures { result ≡ cipher w.now block }
 {
     engine::absorb(t, w, [0u8; 16], &block)
 }
 
-// Enciphers a block with an expanded key.
-pub fn encipher_with(t: &Tables, w: [u8; 176], block: [u8; 16]) -> [u8; 16]
-    requires { EngineTables t.now }
-    ensures { result ≡ cipher w block }
-{
-    encipher_by(t, &w, block)
-}
-
 // Enciphers the first n blocks of buf, each in its place, with an expanded key.
 pub fn encipher_blocks(t: &Tables, w: [u8; 176], n: usize, buf: &mut [u8])
-    requires engine_tables { EngineTables t.now }
-    requires n_in_bounds { 16 * n ≤ length buf.old }
+    requires { 16 * n ≤ length buf.old }
     ensures { buf.new ≡ list_of (λ k. cipher w (slot buf.old k)) n ++ drop (16 * n) buf.old }
 {
-    let mut k = 0;
-    while k < n {
-        let at = 16 * k;
-        let b = block::block_at(buf, at);
-        block::put_at(buf, at, encipher_by(t, &w, b));
-        k += 1;
-    }
+    block::each_block(
+        buf,
+        n,
+        |b: [u8; 16]| -> [u8; 16]
+            ensures { result ≡ cipher w b }
+        { encipher_with(t, &w, b) },
+    );
 }
 
 // AES-128 of a block. Of a deciphered block it gives the block back.
@@ -65,7 +53,7 @@ pub fn encipher(key: [u8; 16], block: [u8; 16]) -> [u8; 16]
     ensures undoes { (b : List ℕ) → Block b → block ≡ decipher key b → result ≡ b }
 {
     let t = engine::tables();
-    encipher_with(&t, engine::expand(&t, key), block)
+    encipher_with(&t, &engine::expand(&t, key), block)
 }
 
 // The inverse of AES-128. Of an enciphered block it gives the block back.

@@ -2,14 +2,13 @@
 // `mac` reads a message where it lies; `mac_in_place` is for one that may be written over: its last block is made ready where it stands, and
 // the MAC is one chain over whole blocks.
 ghost use Rattle.std.specs.Prelude.{◌≡◌, ◌++◌, ◌+◌, ◌-◌, ◌*◌, ◌/◌, ◌≤◌, ◌<◌, length, take, drop};
-ghost use Rattle.cipher.specs.Engine.{EngineTables};
 ghost use Rattle.cipher.specs.Cmac.{padded, last_block, laid_out, ready, mac_with, cmac};
 
 use crate::engine::Tables;
 use crate::{aes, engine};
 use blocks::block;
 
-// A key made ready: its schedule and the two subkeys.
+// A key made ready: its schedule and the two subkeys. Crates above hold it and hand it on by value.
 #[derive(Clone, Copy)]
 pub struct MacKey {
     pub schedule: [u8; 176],
@@ -19,11 +18,10 @@ pub struct MacKey {
 
 // The key made ready.
 pub fn prepare(t: &Tables, key: [u8; 16]) -> MacKey
-    requires { EngineTables t.now }
     ensures { result ≡ ready key }
 {
     let schedule = engine::expand(t, key);
-    let k1 = block::double(aes::encipher_with(t, schedule, [0u8; 16]));
+    let k1 = block::double(aes::encipher_with(t, &schedule, [0u8; 16]));
     let k2 = block::double(k1);
     MacKey { schedule, k1, k2 }
 }
@@ -35,12 +33,8 @@ fn padded(l: &[u8]) -> [u8; 16]
 {
     let n = l.len();
     let mut r = [0u8; 16];
-    let mut i = 0;
-    while i < n {
-        r[i] = l[i];
-        i += 1;
-    }
-    r[i] = 0x80;
+    r[0..n].copy_from_slice(l);
+    r[n] = 0x80;
     r
 }
 
@@ -64,38 +58,29 @@ fn last_at(n: usize) -> usize
 
 // CMAC of a message under a key made ready, read where it lies.
 pub fn mac(t: &Tables, key: MacKey, message: &[u8]) -> [u8; 16]
-    requires { EngineTables t.now }
     ensures { result ≡ mac_with key message.now }
 {
-    let w = key.schedule;
-    let k1 = key.k1;
-    let k2 = key.k2;
     let at = last_at(message.len());
-    let last = last_block(&message[at..], k1, k2);
-    let x = engine::absorb(t, &w, [0u8; 16], &message[0..at]);
-    engine::absorb(t, &w, x, &last)
+    let last = last_block(&message[at..], key.k1, key.k2);
+    let x = engine::absorb(t, &key.schedule, [0u8; 16], &message[0..at]);
+    engine::absorb(t, &key.schedule, x, &last)
 }
 
 // CMAC of the first n bytes of buf under a key made ready. Their last block is laid out where it stands, with the bytes behind them up to its
 // end; what is behind it stays.
 pub fn mac_in_place(t: &Tables, key: MacKey, buf: &mut [u8], n: usize) -> [u8; 16]
-    requires engine_tables { EngineTables t.now }
-    requires n_in_bounds { 16 * ((n - 1) / 16) + 16 ≤ length buf.old }
+    requires { 16 * ((n - 1) / 16) + 16 ≤ length buf.old }
     ensures mac { result ≡ mac_with key (take n buf.old) }
     ensures laid { buf.new ≡ laid_out key.k1 key.k2 (take n buf.old) ++ drop (16 * ((n - 1) / 16) + 16) buf.old }
 {
-    let w = key.schedule;
-    let k1 = key.k1;
-    let k2 = key.k2;
     let at = last_at(n);
-    let last = last_block(&buf[at..n], k1, k2);
+    let last = last_block(&buf[at..n], key.k1, key.k2);
     block::put_at(buf, at, last);
-    engine::absorb(t, &w, [0u8; 16], &buf[0..at + 16])
+    engine::absorb(t, &key.schedule, [0u8; 16], &buf[0..at + 16])
 }
 
 // CMAC of a message, with the engine's tables.
 pub fn cmac_with(t: &Tables, key: [u8; 16], message: &[u8]) -> [u8; 16]
-    requires { EngineTables t.now }
     ensures { result ≡ cmac key message.now }
 {
     mac(t, prepare(t, key), message)

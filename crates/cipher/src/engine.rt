@@ -1,28 +1,25 @@
 // The engine that runs, by round tables (crate `tables`): the one place that names it. Expanding a key and enciphering take its tables from the
-// caller, who takes them once, with `tables`, and hands them down by reference; what they hold is the engine's (specs/Engine.antt: EngineTables).
-ghost use Rattle.std.specs.Prelude.{◌≡◌, ◌++◌, ◌*◌, ◌/◌, ◌≤◌, length, drop};
+// caller, who takes them once, with `tables`, and hands them down by reference; what they hold, their type says.
+ghost use Rattle.std.specs.Prelude.{◌≡◌, List, ℕ, ◌++◌, ◌*◌, ◌/◌, ◌≤◌, length, drop};
 ghost use Rattle.blocks.specs.Block.{slot, list_of};
 ghost use Rattle.blocks.specs.Chain.{chain};
 ghost use Rattle.cipher.specs.Aes.{key_expansion, cipher, inv_cipher};
-ghost use Rattle.cipher.specs.Engine.{EngineTables};
+ghost use Rattle.tables.specs.RoundTables.{DecipherWords};
 
 use blocks::block;
 use fips197::inv_sbox;
 use tables::{inv_round_tables, keys, round_tables, rounds, schedule};
 
 // What expanding a key and enciphering read: the S-box is among it.
-pub type Tables = [u32; 512];
+pub type Tables = round_tables::Tables;
 
 // The tables.
-pub fn tables() -> Tables
-    ensures { EngineTables result }
-{
+pub fn tables() -> Tables {
     round_tables::table()
 }
 
 // The expanded key: FIPS 197's key schedule, 44 words.
 pub fn expand(t: &Tables, key: [u8; 16]) -> [u8; 176]
-    requires { EngineTables t.now }
     ensures { result ≡ key_expansion key }
 {
     schedule::expand(t, key)
@@ -30,8 +27,6 @@ pub fn expand(t: &Tables, key: [u8; 16]) -> [u8; 176]
 
 // The chain from x over the whole blocks of s, with an expanded key.
 pub fn absorb(t: &Tables, w: &[u8; 176], x: [u8; 16], s: &[u8]) -> [u8; 16]
-    requires engine_tables { EngineTables t.now }
-    requires w_len { length w.now ≡ 176 }
     ensures { result ≡ chain (cipher w.now) x s.now (length s.now / 16) }
 {
     rounds::absorb(t, w, x, s)
@@ -53,11 +48,11 @@ pub fn decipher_blocks(w: [u8; 176], n: usize, buf: &mut [u8])
     let t = inv_round_tables::table();
     let last = inv_sbox::table();
     let words = keys::decipher_words(w);
-    let mut k = 0;
-    while k < n {
-        let at = 16 * k;
-        let b = block::block_at(buf, at);
-        block::put_at(buf, at, rounds::inv_cipher(&t, &last, &words, b));
-        k += 1;
-    }
+    block::each_block(
+        buf,
+        n,
+        |b: [u8; 16]| -> [u8; 16]
+            ensures { (w : List ℕ) → length w ≡ 176 → DecipherWords words w → result ≡ inv_cipher w b }
+        { rounds::inv_cipher(&t, &last, &words, b) },
+    );
 }

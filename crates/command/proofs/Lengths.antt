@@ -10,13 +10,6 @@ use Rattle.printing.specs.Text.{ascii, labelled}
 use Rattle.printing.proofs.Lengths.{decimal-64}
 use Rattle.command.specs.Said.{count_line, message_line, item_end, item_line, family_part, new_size, size_line, temporary_name}
 
--- at the front
-pub room_front : (room long most : ℕ) → long ≤ most → most ≤ room → 0 + long ≤ room
-room_front room long most h k = omega arith
-
-pub short-front : (r long most : ℕ) → r ≡ 0 + long → long ≤ most → r ≤ most
-short-front r long most e h = omega (arith, e)
-
 pub count-short : (n : ℕ) → n < 2 ^ 64 → length (count_line n) ≤ 27
 unfolding count_line labelled ascii
 count-short n h = simp length-append (omega (arith, decimal-64 n h))

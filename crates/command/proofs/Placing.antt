@@ -1,43 +1,49 @@
 -- What is said of one card packed.
 use Rattle.std.specs.Prelude.{◌≡◌, ◌+◌, ◌≤◌}
-use Rattle.fips197.proofs.Kit.{refl, ◌∙◌, ap, List, ℕ, arith, length, eq-eqb, ne_eqb}
-use Rattle.files.specs.declared.Refusal.{Refusal}
-use Rattle.files.specs.Refusals.{refusal}
-use Rattle.files.proofs.Passing.{given, kept}
+use Rattle.fips197.proofs.Kit.{refl, sym, ap, List, ℕ, length}
+use Rattle.files.specs.declared.refusals.Reason.{Reason}
+use Rattle.files.specs.declared.refusals.Reason.TheVariants.{Keys, Code, Message, Count, Items, TagFile, Room, Number, Item, Mac, Counts, Full, Early, Shut, Numbers}
+use Rattle.files.specs.Refusals.{Refusal, refusal, none, number_of}
 use Rattle.packing.specs.Packing.{append_refusal}
 use Rattle.packing.proofs.Refusing.{appendable}
 use Rattle.command.specs.Packing.{placed, size_with}
 
-module _ (r : Refusal) (k : ℕ) where
-  pub placed-none : r.number ≡ 0 → r ≡ placed r k
+module _ (place k : ℕ) where
+  pub placed-room : (r : Reason) → r ≡ Room → refusal 3 k ≡ placed (refusal (number_of r) place) k
   unfolding placed
-  placed-none h = rw (eq-eqb r.number 0 h) refl
+  placed-room r e = rw e refl
 
-  pub placed-long : r.number ≡ 7 → refusal 3 k ≡ placed r k
+  pub placed_other : (r : Reason) → (r ≡ Room → ⊥) → refusal (number_of r) k ≡ placed (refusal (number_of r) place) k
   unfolding placed
-  placed-long h =
-      let z : r.number ≡ 0 → ⊥ = λ (e : r.number ≡ 0). absurd (omega arith) in
-      rw (ne_eqb r.number 0 z, eq-eqb r.number 7 h) refl
+  placed_other Keys n = refl
+  placed_other Code n = refl
+  placed_other Message n = refl
+  placed_other Count n = refl
+  placed_other Items n = refl
+  placed_other TagFile n = refl
+  placed_other Room n = absurd (n refl)
+  placed_other Number n = refl
+  placed_other Item n = refl
+  placed_other Mac n = refl
+  placed_other Counts n = refl
+  placed_other Full n = refl
+  placed_other Early n = refl
+  placed_other Shut n = refl
+  placed_other Numbers n = refl
 
-  pub placed_other : (r.number ≡ 0 → ⊥) → (r.number ≡ 7 → ⊥) → refusal r.number k ≡ placed r k
-  unfolding placed
-  placed_other z h = rw (ne_eqb r.number 0 z, ne_eqb r.number 7 h) refl
+-- what Append gives
+module _ (file : List ℕ) (n : ℕ) (card : List ℕ) (k : ℕ) where
+  module _ (e : none ≡ append_refusal file n card) where
+    pub none_said : none ≡ placed (append_refusal file n card) k
+    unfolding placed
+    none_said = ap (λ (x : Refusal). placed x k) e
 
--- r is the refusal that Append gives
-module _ (file : List ℕ) (n : ℕ) (card : List ℕ) (k : ℕ) (r : Refusal) (e : r ≡ append_refusal file n card) where
-  pub said-so : (q : Refusal) → q ≡ placed r k → q ≡ placed (append_refusal file n card) k
-  said-so q h = h ∙ ap (λ (x : Refusal). placed x k) e
+    pub size_more : n + 2 + length card ≡ size_with file n card
+    unfolding size_with
+    size_more = rw (sym e) refl
 
-  pub size_refused : (r.number ≡ 0 → ⊥) → 0 ≡ size_with file n card
-  unfolding size_with
-  size_refused h = kept r (append_refusal file n card) e (n + 2 + length card) 0 h
+    pub size-inside : n + 2 + length card ≤ length file
+    size-inside = (appendable file n card none e refl).room
 
-  pub size_more : r.number ≡ 0 → n + 2 + length card ≡ size_with file n card
-  unfolding size_with
-  size_more h = given r (append_refusal file n card) e (n + 2 + length card) 0 h
-
-  pub size-inside : r.number ≡ 0 → n + 2 + length card ≤ length file
-  size-inside h = (appendable file n card r e h).room
-
-  pub size_small : r.number ≡ 0 → n + 2 + length card ≤ 65536
-  size_small h = (appendable file n card r e h).size
+    pub size_small : n + 2 + length card ≤ 65536
+    size_small = (appendable file n card none e refl).size

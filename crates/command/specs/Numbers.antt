@@ -1,8 +1,6 @@
 -- A number typed as a word: decimal digits, at least one, that write a number below 2^64, or one below 2^32. Cited by the contracts of
 -- `number_in` and `number32_in`. Assumes nothing.
-use Rattle.std.specs.Prelude.{Bool, true, false, ◌&&◌, List, [], ◌∷◌, ℕ, ◌+◌, ◌-◌, ◌*◌, ◌^◌, leb, ltb, length, if◌then◌else◌}
-use Rattle.command.specs.declared.numbers.Parsed.{Parsed}
-use Rattle.command.specs.declared.numbers.Parsed32.{Parsed32}
+use Rattle.std.specs.Prelude.{Bool, true, ◌&&◌, List, [], ◌∷◌, ℕ, ◌+◌, ◌-◌, ◌*◌, ◌^◌, leb, ltb, length, if◌then◌else◌, Option, Some, None}
 
 -- one of the characters 0 to 9
 unfoldable pub is_digit : ℕ → Bool
@@ -26,13 +24,13 @@ with_digits v (b ∷ rest) = with_digits (with_digit v b) rest
 unfoldable pub is_number : List ℕ → Bool
 is_number text = (ltb 0 (length text) && digits_only text) && ltb (with_digits 0 text) (2 ^ 64)
 
--- the number that a text writes, or that it writes none: then the value is 0
-unfoldable pub parsed_number : List ℕ → Parsed
-parsed_number text = if is_number text then record { ok = true; value = with_digits 0 text } else record { ok = false; value = 0 }
+-- the number that a text writes, if it writes one
+unfoldable pub parsed_number : List ℕ → Option ℕ
+parsed_number text = if is_number text then Some (with_digits 0 text) else None
 
 -- the same of a number that 32 bits hold
 unfoldable pub is_number32 : List ℕ → Bool
 is_number32 text = is_number text && ltb (with_digits 0 text) (2 ^ 32)
 
-unfoldable pub parsed_number32 : List ℕ → Parsed32
-parsed_number32 text = if is_number32 text then record { ok = true; value = with_digits 0 text } else record { ok = false; value = 0 }
+unfoldable pub parsed_number32 : List ℕ → Option ℕ
+parsed_number32 text = if is_number32 text then Some (with_digits 0 text) else None

@@ -1,6 +1,6 @@
 -- What `pack` says of one card, over Append of the crate packing. Assumes nothing.
 use Rattle.std.specs.Prelude.{List, ℕ, ◌+◌, eqb, length, if◌then◌else◌}
-use Rattle.files.specs.declared.Refusal.{Refusal}
+use Rattle.files.specs.Refusals.{Refusal}
 use Rattle.files.specs.Refusals.{refusal, passes}
 use Rattle.packing.specs.Packing.{append_refusal}
 

@@ -1,68 +1,64 @@
-// The lines that the command prints beside the report program's, put like those of the crate printing, and the name of a file that is not
-// whole yet.
-ghost use Rattle.std.specs.Prelude.{◌≡◌, ◌+◌, ◌≤◌, length};
-ghost use Rattle.printing.specs.Text.{over};
+// The lines that the command prints beside the report program's, put behind a text like those of the crate printing, and the name of a file that
+// is not whole yet.
+ghost use Rattle.std.specs.Prelude.{◌≡◌, ◌++◌, ◌+◌, ◌≤◌, length};
 ghost use Rattle.command.specs.Said.{count_line, message_line, item_end, item_line, family_part, new_size, size_line, temporary_name};
 
 use files::tagfile;
 use files::tagfile::Head;
+use printing::Text;
 
 // Puts the line of how many cards there are.
-pub fn put_count_line(out: &mut [u8], at: usize, n: usize) -> usize
-    requires { at + 27 ≤ length out.old }
-    ensures written { out.new ≡ over at (count_line n) out.old }
-    ensures behind { result ≡ at + length (count_line n) }
-    ensures short { result ≤ at + 27 }
+pub fn put_count_line<const N: usize>(text: &mut Text<N>, n: usize)
+    requires { length text.old + 27 ≤ N }
+    ensures written { text.new ≡ text.old ++ count_line n }
+    ensures short { length text.new ≤ length text.old + 27 }
 {
-    let next = printing::put_labelled(out, at, b"cards ", n as u64);
-    printing::put(out, next, b"\n")
+    text.put_labelled(b"cards ", n as u64);
+    text.put(b"\n");
 }
 
 // Puts the line of how many cards a message has, and of its number.
-pub fn put_message_line(out: &mut [u8], at: usize, n: usize, number: u32) -> usize
-    requires { at + 55 ≤ length out.old }
-    ensures written { out.new ≡ over at (message_line n number) out.old }
-    ensures behind { result ≡ at + length (message_line n number) }
-    ensures short { result ≤ at + 55 }
+pub fn put_message_line<const N: usize>(text: &mut Text<N>, n: usize, number: u32)
+    requires { length text.old + 55 ≤ N }
+    ensures written { text.new ≡ text.old ++ message_line n number }
+    ensures short { length text.new ≤ length text.old + 55 }
 {
-    let next = printing::put_labelled(out, at, b"cards ", n as u64);
-    let next = printing::put_labelled(out, next, b" number ", number as u64);
-    printing::put(out, next, b"\n")
+    text.put_labelled(b"cards ", n as u64);
+    text.put_labelled(b" number ", number as u64);
+    text.put(b"\n");
 }
 
 // Puts the end of a card's line.
-fn put_item_end(out: &mut [u8], at: usize, long: usize) -> usize
-    requires { at + length (item_end long) ≤ length out.old }
-    ensures written { out.new ≡ over at (item_end long) out.old }
-    ensures behind { result ≡ at + length (item_end long) }
+fn put_item_end<const N: usize>(text: &mut Text<N>, long: usize)
+    requires { length text.old + length (item_end long) ≤ N }
+    ensures { text.new ≡ text.old ++ item_end long }
 {
     if long == 0 {
-        return printing::put(out, at, b" vacant\n");
+        text.put(b" vacant\n");
+    } else {
+        text.put(b"\n");
     }
-    printing::put(out, at, b"\n")
 }
 
 // Puts the line of a card and its length.
-pub fn put_item_line(out: &mut [u8], at: usize, j: usize, long: usize) -> usize
-    requires { at + 60 ≤ length out.old }
-    ensures written { out.new ≡ over at (item_line j long) out.old }
-    ensures behind { result ≡ at + length (item_line j long) }
-    ensures short { result ≤ at + 60 }
+pub fn put_item_line<const N: usize>(text: &mut Text<N>, j: usize, long: usize)
+    requires { length text.old + 60 ≤ N }
+    ensures written { text.new ≡ text.old ++ item_line j long }
+    ensures short { length text.new ≤ length text.old + 60 }
 {
-    let next = printing::put_labelled(out, at, b"card ", j as u64);
-    let next = printing::put_labelled(out, next, b" bytes ", long as u64);
-    put_item_end(out, next, long)
+    text.put_labelled(b"card ", j as u64);
+    text.put_labelled(b" bytes ", long as u64);
+    put_item_end(text, long);
 }
 
 // Puts how many cards a size has at most, its tags and its limit.
-fn put_family(out: &mut [u8], at: usize, code: u64) -> usize
-    requires { at + length (family_part code) ≤ length out.old }
-    ensures written { out.new ≡ over at (family_part code) out.old }
-    ensures behind { result ≡ at + length (family_part code) }
+fn put_family<const N: usize>(text: &mut Text<N>, code: u64)
+    requires { length text.old + length (family_part code) ≤ N }
+    ensures { text.new ≡ text.old ++ family_part code }
 {
-    let next = printing::put_labelled(out, at, b" cards ", sizes::items(code) as u64);
-    let next = printing::put_labelled(out, next, b" tags ", sizes::tags(code) as u64);
-    printing::put_labelled(out, next, b" limit ", sizes::limit(code) as u64)
+    text.put_labelled(b" cards ", sizes::items(code) as u64);
+    text.put_labelled(b" tags ", sizes::tags(code) as u64);
+    text.put_labelled(b" limit ", sizes::limit(code) as u64);
 }
 
 // How many bytes a size's tag files have that are made anew.
@@ -78,26 +74,24 @@ fn new_size(code: u64) -> usize
 }
 
 // Puts the line of a size code and its numbers.
-pub fn put_size_line(out: &mut [u8], at: usize, code: u64) -> usize
-    requires { at + 133 ≤ length out.old }
-    ensures written { out.new ≡ over at (size_line code) out.old }
-    ensures behind { result ≡ at + length (size_line code) }
-    ensures short { result ≤ at + 133 }
+pub fn put_size_line<const N: usize>(text: &mut Text<N>, code: u64)
+    requires { length text.old + 133 ≤ N }
+    ensures written { text.new ≡ text.old ++ size_line code }
+    ensures short { length text.new ≤ length text.old + 133 }
 {
-    let next = printing::put_labelled(out, at, b"size ", code);
-    let next = put_family(out, next, code);
-    let next = printing::put_labelled(out, next, b" bytes ", new_size(code) as u64);
-    printing::put(out, next, b"\n")
+    text.put_labelled(b"size ", code);
+    put_family(text, code);
+    text.put_labelled(b" bytes ", new_size(code) as u64);
+    text.put(b"\n");
 }
 
-// Puts the name under which a file is written until it is whole, to the front of out.
-pub fn put_temporary(out: &mut [u8], name: &[u8], process: u64) -> usize
-    requires { length name.now + 25 ≤ length out.old }
-    ensures written { out.new ≡ over 0 (temporary_name name.now process) out.old }
-    ensures behind { result ≡ length (temporary_name name.now process) }
-    ensures short { result ≤ length name.now + 25 }
+// Puts the name under which a file is written until it is whole.
+pub fn put_temporary<const N: usize>(text: &mut Text<N>, name: &[u8], process: u64)
+    requires { length text.old + (length name.now + 25) ≤ N }
+    ensures written { text.new ≡ text.old ++ temporary_name name.now process }
+    ensures short { length text.new ≤ length text.old + (length name.now + 25) }
 {
-    let next = printing::put(out, 0, name);
-    let next = printing::put_labelled(out, next, b".", process);
-    printing::put(out, next, b".new")
+    text.put(name);
+    text.put_labelled(b".", process);
+    text.put(b".new");
 }

@@ -1,17 +1,12 @@
 -- The steps back that a polynomial's terms stand for, written one behind another: those passed stand at the front.
 use Rattle.std.specs.Prelude.{◌≡◌, ◌∷◌, ◌++◌, ◌+◌, ◌-◌, ◌≤◌, ◌<◌, if◌then◌else◌}
-use Rattle.fips197.proofs.Kit.{refl, sym, ap, ap₂, ◌∙◌, subst, Bool, true, false, List, [], append_assoc, ℕ, suc, arith, add-one, eqb, length, get_or, set, drop, length-append, drop-cons, set_at, ne_eqb}
+use Rattle.fips197.proofs.Kit.{refl, sym, ap, ap₂, ◌∙◌, subst, Bool, true, false, List, [], append_assoc, ℕ, suc, arith, add-one, eqb, length, get_or, set, drop, length-append, drop-cons, set_at}
 use Rattle.incidence.specs.Count.{indicator, listed}
 use Rattle.incidence.proofs.Counting.{count_most}
 use Rattle.incidence.proofs.Listing.{listed-length}
 use Rattle.polynomials.specs.Polynomial.{poly_size}
 use Rattle.polynomials.proofs.Sizes.{size-most}
 use Rattle.cyclic.specs.CyclicCode.{steps_back}
-
-pub behind-none : (c at : ℕ) → (c ≡ 1 → ⊥) → at ≡ at + indicator (eqb c 1)
-behind-none c at h =
-    let e = ap indicator (ne_eqb c 1 h) in
-    omega arith
 
 -- the numbers 1 to j that pass stand at the front of what o was, and at is the place behind them
 pub record Front (p : ℕ → Bool) (o : List ℕ) (j : ℕ) (out : List ℕ) (at : ℕ) : Type 0 where

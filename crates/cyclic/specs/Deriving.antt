@@ -1,15 +1,15 @@
 -- What `pattern` answers and writes, for any number m, any list and any buffer lent. Assumes nothing.
-use Rattle.std.specs.Prelude.{Bool, true, false, ◌||◌, List, ◌++◌, ℕ, eqb, ltb, length, drop, if◌then◌else◌}
+use Rattle.std.specs.Prelude.{Bool, ◌||◌, List, ◌++◌, ℕ, Option, None, Some, eqb, ltb, length, drop, if◌then◌else◌}
 use Rattle.cyclic.specs.CyclicCode.{row_pattern}
-use Rattle.cyclic.specs.declared.Derived.{Derived}
 
 -- m is 0 or larger than any plane, or there are fewer places than a pattern for m cards can have steps
 unfoldable pub refuses : ℕ → ℕ → Bool
 refuses m room = (eqb m 0 || ltb 273 m) || ltb room m
 
-unfoldable pub pattern_answer : ℕ → List ℕ → ℕ → Derived
+-- how many steps it has, or None where it refuses
+unfoldable pub pattern_answer : ℕ → List ℕ → ℕ → Option ℕ
 pattern_answer m D room =
-    if refuses m room then record { ok = false; count = 0 } else record { ok = true; count = length (row_pattern m D) }
+    if refuses m room then None else Some (length (row_pattern m D))
 
 -- the steps at the front; what is behind them stays, and everything where it refuses
 unfoldable pub pattern_writes : ℕ → List ℕ → List ℕ → List ℕ

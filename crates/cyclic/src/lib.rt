@@ -1,18 +1,10 @@
 // The row pattern of a difference list, by the check polynomial of the cyclic code that the list generates (document 02, request 2.6).
 #![tactic(auto)]
 
-ghost use Rattle.std.specs.Prelude.{◌≡◌, ◌++◌, suc, ◌+◌, ◌≤◌, ◌<◌, eqb, ltb, length, drop, set, if◌then◌else◌};
-ghost use Rattle.blocks.specs.Block.{zeros};
+ghost use Rattle.std.specs.Prelude.{◌≡◌, ◌++◌, suc, ◌+◌, ◌-◌, ◌≤◌, ◌<◌, eqb, ltb, length, drop, set, if◌then◌else◌};
 ghost use Rattle.incidence.specs.Count.{indicator};
-ghost use Rattle.cyclic.specs.CyclicCode.{modulus, of_list, steps_back, row_pattern};
+ghost use Rattle.cyclic.specs.CyclicCode.{modulus, of_list, generator_polynomial, check_polynomial, steps_back};
 ghost use Rattle.cyclic.specs.Deriving.{pattern_answer, pattern_writes};
-
-// How many steps a pattern has, or that none was derived: the count is 0 then.
-#[derive(Clone, Copy)]
-pub struct Derived {
-    pub ok: bool,
-    pub count: usize,
-}
 
 // Adds the term x^e to a sum of terms, if e is below m.
 fn add_term(m: usize, e: u16, p: &mut [u8])
@@ -25,23 +17,25 @@ fn add_term(m: usize, e: u16, p: &mut [u8])
     }
 }
 
-// Puts D(x) into p, which holds zeros.
-fn put_list(m: usize, list: &[u16], p: &mut [u8])
-    requires { p.old ≡ zeros (suc m) }
-    ensures { p.new ≡ of_list m list.now }
+// Puts D(x) into p, which has a place for each term to x^m.
+fn put_list(list: &[u16], p: &mut [u8])
+    requires { 0 < length p.old }
+    ensures { p.new ≡ of_list (length p.old - 1) list.now }
 {
-    let mut i = list.len();
-    while 0 < i {
-        i -= 1;
+    let m = p.len() - 1;
+    p.fill(0);
+    for i in (0..list.len()).rev() {
         add_term(m, list[i], p);
     }
 }
 
-// Puts x^m + 1 into p, which holds zeros.
-fn put_modulus(m: usize, p: &mut [u8])
-    requires { (0 < m) × (p.old ≡ zeros (suc m)) }
-    ensures { p.new ≡ modulus m }
+// Puts x^m + 1 into p, likewise.
+fn put_modulus(p: &mut [u8])
+    requires { 1 < length p.old }
+    ensures { p.new ≡ modulus (length p.old - 1) }
 {
+    let m = p.len() - 1;
+    p.fill(0);
     p[0] = 1;
     p[m] = 1;
 }
@@ -52,11 +46,12 @@ fn put_step(out: &mut [u16], at: usize, c: u8, k: usize) -> usize
     ensures written { out.new ≡ (if eqb c 1 then set out.old at k else out.old) }
     ensures behind { result ≡ at + indicator (eqb c 1) }
 {
-    if c != 1 {
-        return at;
+    if c == 1 {
+        out[at] = k as u16;
+        at + 1
+    } else {
+        at
     }
-    out[at] = k as u16;
-    at + 1
 }
 
 // Writes the steps back that h's terms stand for to the front of out, and gives how many.
@@ -67,64 +62,50 @@ fn put_steps(h: &[u8], out: &mut [u16]) -> usize
 {
     let n = polynomials::size(h);
     let mut at = 0;
-    let mut k = 1;
-    while k < n {
+    for k in 1..n {
         at = put_step(out, at, h[n - 1 - k], k);
-        k += 1;
     }
     at
 }
 
-// Works the pattern out in four arrays of m + 1 zeros.
-fn derive(
-    m: usize,
-    list: &[u16],
-    d: &mut [u8],
-    e: &mut [u8],
-    f: &mut [u8],
-    h: &mut [u8],
-    out: &mut [u16],
-) -> usize
-    requires { (0 < m) × (m ≤ 273) × (m ≤ length out.old) × (d.old ≡ zeros (suc m)) × (e.old ≡ zeros (suc m)) × (f.old ≡ zeros (suc m)) × (h.old ≡ zeros (suc m)) }
-    ensures written { out.new ≡ row_pattern m list.now ++ drop (length (row_pattern m list.now)) out.old }
-    ensures count { result ≡ length (row_pattern m list.now) }
+// Puts the generator polynomial of a list into p, likewise.
+fn put_generator(list: &[u16], p: &mut [u8])
+    requires { (1 < length p.old) × (length p.old ≤ 274) }
+    ensures { p.new ≡ generator_polynomial (length p.old - 1) list.now }
 {
-    put_list(m, list, d);
-    put_modulus(m, e);
-    polynomials::gcd(d, e);
-    put_modulus(m, f);
-    polynomials::divide(h, f, d);
-    put_steps(h, out)
+    let mut q = [0u8; 274];
+    let of_modulus = &mut q[..p.len()];
+    put_list(list, p);
+    put_modulus(of_modulus);
+    polynomials::gcd(p, of_modulus);
 }
 
-// The row pattern of a difference list for m cards: writes its steps, rising, to the front of out. Not derived, and out is as it was, where m
-// is 0 or above 273 or out has fewer than m places. Members of the list from m on are left out.
-pub fn pattern(m: usize, list: &[u16], out: &mut [u16]) -> Derived
+// Puts the check polynomial of a list into h, likewise.
+fn put_check(list: &[u16], h: &mut [u8])
+    requires { (1 < length h.old) × (length h.old ≤ 274) }
+    ensures { h.new ≡ check_polynomial (length h.old - 1) list.now }
+{
+    let mut p = [0u8; 274];
+    let mut q = [0u8; 274];
+    let of_modulus = &mut p[..h.len()];
+    let generator = &mut q[..h.len()];
+    put_modulus(of_modulus);
+    put_generator(list, generator);
+    polynomials::divide(h, of_modulus, generator);
+}
+
+// The row pattern of a difference list for m cards: writes its steps, rising, to the front of out, and gives how many. None, and out is as it was,
+// where m is 0 or above 273 or out has fewer than m places. Members of the list from m on are left out.
+// The steps go into a buffer lent, with their number beside it, as clause `written` says: there is no heap.
+pub fn pattern(m: usize, list: &[u16], out: &mut [u16]) -> Option<usize>
     ensures answer { result ≡ pattern_answer m list.now (length out.old) }
     ensures written { out.new ≡ pattern_writes m list.now out.old }
 {
     if m == 0 || 273 < m || out.len() < m {
-        return Derived {
-            ok: false,
-            count: 0,
-        };
+        return None;
     }
-    let mut d = [0u8; 274];
-    let mut e = [0u8; 274];
-    let mut f = [0u8; 274];
-    let mut h = [0u8; 274];
-    let w = m + 1;
-    let count = derive(
-        m,
-        list,
-        &mut d[0..w],
-        &mut e[0..w],
-        &mut f[0..w],
-        &mut h[0..w],
-        out,
-    );
-    Derived {
-        ok: true,
-        count: count,
-    }
+    let mut space = [0u8; 274];
+    let h = &mut space[..m + 1];
+    put_check(list, h);
+    Some(put_steps(h, out))
 }

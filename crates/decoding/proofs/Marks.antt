@@ -1,7 +1,10 @@
 -- Arrays of marks: one mark written leaves the others, what two steps clear is what either clears, and an array whose marks are known is
 -- a list.
-use Rattle.std.specs.Prelude.{◌≡◌, ◌&&◌, ◌||◌, ◌∷◌, ◌++◌, ◌+◌, ◌-◌, ◌≤◌, ◌<◌, if◌then◌else◌}
-use Rattle.fips197.proofs.Kit.{refl, sym, ap, ap₂, ◌∙◌, subst, Bool, true, false, not, List, [], ℕ, zero, suc, arith, eqb, length, get_or, set, take, drop, length-set, take-append-drop, take-suc, drop-drop, get_or-set_same, get_or-set_other, drop-set-lt, eqb-true, eqb-false, ne_eqb}
+use Rattle.std.specs.Prelude.{◌≡◌, ◌&&◌, ◌||◌, ◌∷◌, ◌++◌, ◌-◌, ◌≤◌, ◌<◌, if◌then◌else◌}
+use Rattle.fips197.proofs.Kit.{refl, sym, ap, ap₂, ◌∙◌, subst, Bool, true, false, not, List, [], append-nil, ℕ, zero, suc, arith, eqb, length, get_or, set, take, drop, length-set, take-append-drop, take-suc, get_or-set_same, get_or-set_other, drop-set-lt, eqb-true, eqb-false, ne_eqb}
+use Rattle.std.proofs.Math.ListN.{replicate, drop_of_length-le}
+use Rattle.std.proofs.Math.Seq.{drop-length}
+use Rattle.std.proofs.lemmas.List.{length-replicate, get_or-replicate}
 use Rattle.blocks.specs.Block.{zeros}
 use Rattle.incidence.specs.Count.{indicator, count_up_to, any_up_to}
 use Rattle.incidence.specs.Family.{Family, holds_one, Lawful}
@@ -25,32 +28,14 @@ module _ (s : List ℕ) (j v : ℕ) (low : 1 ≤ j) (fits : j ≤ length s) wher
   put_rest : (n : ℕ) → j ≤ n → drop n (set s (j - 1) v) ≡ drop n s
   put_rest n u = drop-set-lt n s (j - 1) v (omega arith)
 
-pub marked-first : (mark : ℕ → ℕ) (s : List ℕ) → Marked 0 mark s s
-marked-first mark s = record { size = refl; marks = λ j l u. absurd (omega arith); rest = refl }
-
-pub marked_next : (mark : ℕ → ℕ) (before s : List ℕ) (i : ℕ) → Marked i mark before s → i < length s → Marked (i + 1) mark before (set s i (mark (i + 1)))
-marked_next mark before s i M h = record {
-  size = length-set s i (mark (i + 1)) ∙ M.size;
-  marks = λ j l u. go j l u (eqb j (i + 1)) refl;
-  rest = ap (drop (i + 1)) place ∙ put_rest s (i + 1) (mark (i + 1)) (omega arith) (omega arith) (i + 1) (omega arith)
-      ∙ sym (drop-drop 1 i s) ∙ ap (drop 1) M.rest ∙ drop-drop 1 i before;
+-- an array with one mark throughout
+pub marked_all : (s : List ℕ) (v : ℕ) → Marked (length s) (λ j. v) s (replicate (length s) v)
+unfolding mark_in
+marked_all s v = record {
+  size = length-replicate (length s) v;
+  marks = λ j l u. get_or-replicate (length s) (j - 1) v 0 (omega arith);
+  rest = drop_of_length-le (replicate (length s) v) (omega (arith, length-replicate (length s) v)) ∙ sym (drop-length s);
 }
-  where
-    place : set s i (mark (i + 1)) ≡ set s (i + 1 - 1) (mark (i + 1))
-    place = let e : i ≡ i + 1 - 1 = omega arith in ap (λ (k : ℕ). set s k (mark (i + 1))) e
-
-    go : (j : ℕ) → 1 ≤ j → j ≤ i + 1 → (b : Bool) → eqb j (i + 1) ≡ b → mark_in (set s i (mark (i + 1))) j ≡ mark j
-    go j l u true q =
-        let e = eqb-true j (i + 1) q in
-        ap (λ (t : List ℕ). mark_in t j) place ∙ ap (mark_in (set s (i + 1 - 1) (mark (i + 1)))) e
-        ∙ put_here s (i + 1) (mark (i + 1)) (omega arith) (omega arith) ∙ ap mark (sym e)
-    go j l u false q =
-        let ne = eqb-false j (i + 1) q in
-        ap (λ (t : List ℕ). mark_in t j) place
-        ∙ put_other s (i + 1) (mark (i + 1)) (omega arith) (omega arith) j l ne ∙ M.marks j l (omega (arith, ne))
-
-pub marked_done : (mark : ℕ → ℕ) (before after : List ℕ) (i n : ℕ) → Marked i mark before after → i ≡ n → Marked n mark before after
-marked_done mark before after i n M e = subst (λ (k : ℕ). Marked k mark before after) e M
 
 -- ---- items are cleared
 
@@ -60,6 +45,9 @@ cleared_as p q n before after h C = record {
   marks = λ j l u. C.marks j l u ∙ ap (λ (b : Bool). if b then 0 else mark_in before j) (h j l u);
   rest = C.rest;
 }
+
+pub cleared_at : (p : ℕ → Bool) {n m : ℕ} {before after : List ℕ} → n ≡ m → Cleared p n before after → Cleared p m before after
+cleared_at p {before = before} {after = after} e C = subst (λ (k : ℕ). Cleared p k before after) e C
 
 pub cleared-none : (p : ℕ → Bool) (n : ℕ) (s : List ℕ) → ((j : ℕ) → 1 ≤ j → j ≤ n → p j ≡ false) → Cleared p n s s
 cleared-none p n s h =
@@ -142,10 +130,21 @@ module _ (F : Family) (agrees : ℕ → Bool) {n : ℕ} {a b c : List ℕ} (all 
   unexplained_is = any_ext _ _ F.rows (λ i l u. ap (λ (t : Bool). not (agrees i) && not t) (holds_is i))
 
   -- what is counted and found decides the answer
-  pub answer_is : (rows names : ℕ) → rows ≡ disagreeing agrees F.rows → names ≡ number_named F agrees n
+  answer_to : (rows names : ℕ) → rows ≡ disagreeing agrees F.rows → names ≡ number_named F agrees n
       → answer_by F.limit rows names (any_up_to (unexplained_in F agrees c n) F.rows) ≡ answer F agrees n
   unfolding answer
-  answer_is rows names p q = rw (p, q, unexplained_is)
+  answer_to rows names p q = rw (p, q, unexplained_is)
+
+-- where there are as many marks as items
+module _ (F : Family) (agrees : ℕ → Bool) {a b c : List ℕ} (all : Marked (length a) (λ j. 1) a b) (C : Cleared (cleared F agrees F.rows) (length a) b c) where
+  pub count_at : count_up_to (is_marked c) (length c) ≡ number_named F agrees (length a)
+  count_at = ap (count_up_to (is_marked c)) (C.size ∙ all.size) ∙ count_is F agrees all C
+
+  pub answer_is : (rows names : ℕ) → rows ≡ disagreeing agrees F.rows → names ≡ number_named F agrees (length a)
+      → answer_by F.limit rows names (any_up_to (unexplained_in F agrees c (length c)) F.rows) ≡ answer F agrees (length a)
+  answer_is rows names p q =
+      ap (λ (k : ℕ). answer_by F.limit rows names (any_up_to (unexplained_in F agrees c k) F.rows)) (C.size ∙ all.size)
+      ∙ answer_to F agrees all C rows names p q
 
 -- marks that are known are a list
 module _ (p : ℕ → Bool) (n : ℕ) (before after : List ℕ) (M : Marked n (λ j. indicator (p j)) before after) (fits : n ≤ length before) where
@@ -166,6 +165,11 @@ module _ (p : ℕ → Bool) (n : ℕ) (before after : List ℕ) (M : Marked n (�
   marked-list =
       sym (take-append-drop n after) ∙ ap (λ (t : List ℕ). t ++ drop n after) (front n (omega arith))
       ∙ ap (λ (t : List ℕ). marks_of p n ++ t) M.rest
+
+pub marked_whole : (p : ℕ → Bool) (before after : List ℕ) → Marked (length before) (λ j. indicator (p j)) before after → after ≡ marks_of p (length before)
+marked_whole p before after M =
+    marked-list p (length before) before after M (omega arith)
+    ∙ ap (λ (t : List ℕ). marks_of p (length before) ++ t) (drop-length before) ∙ append-nil _
 
 -- ---- no item is named
 

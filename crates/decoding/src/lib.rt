@@ -2,14 +2,15 @@
 // clear their items, the others are counted, and the items that no row clears are named.
 #![tactic(auto)]
 
-ghost use Rattle.std.specs.Prelude.{◌≡◌, true, not, ◌&&◌, ◌++◌, ◌*◌, ◌≤◌, eqb, leb, length, drop};
-ghost use Rattle.incidence.specs.Count.{indicator, count_up_to, any_up_to};
+ghost use Rattle.std.specs.Prelude.{◌≡◌, true, ◌&&◌, ◌++◌, ◌*◌, ◌≤◌, eqb, length, drop};
+ghost use Rattle.std.specs.List.{list_any};
+ghost use Rattle.incidence.specs.Count.{inside, count_up_to, any_up_to};
 ghost use Rattle.blocks.specs.Block.{zeros};
 ghost use Rattle.incidence.specs.Family.{holds_one};
 ghost use Rattle.incidence.specs.Report.{cleared, named, number_named, disagreeing, answer_by, answer};
 ghost use Rattle.incidence.specs.declared.Answer.TheVariants.{Intact};
 ghost use Rattle.sizes.specs.Sizes.{known, family_of};
-ghost use Rattle.decoding.specs.Decoding.{agrees_in, agrees_from, marks_of, Marked, Cleared, is_marked, unexplained_in};
+ghost use Rattle.decoding.specs.Decoding.{agrees_in, agrees_from, marks_of, Cleared, is_marked, unexplained_in};
 
 use blocks::block;
 use incidence::Answer;
@@ -25,40 +26,55 @@ pub struct Decoded {
     pub rows: usize,
 }
 
-// Gives the items 1 to n one mark.
-fn mark_all(marks: &mut [u8], n: usize, mark: u8)
-    requires { n ≤ length marks.old }
-    ensures { Marked n (λ j. mark) marks.old marks.new }
+// Clears item j, if it has a mark.
+fn clear_item(marks: &mut [u8], j: usize)
+    requires { 1 ≤ j }
+    ensures { Cleared (eqb j) (length marks.old) marks.old marks.new }
 {
-    let mut i = 0;
-    while i < n {
-        marks[i] = mark;
-        i += 1;
-    }
-}
-
-// Clears item j, if it is one of the first n.
-fn clear_item(marks: &mut [u8], n: usize, j: usize)
-    requires { (1 ≤ j) × (n ≤ length marks.old) }
-    ensures { Cleared (eqb j) n marks.old marks.new }
-{
-    if j <= n {
+    if j <= marks.len() {
         marks[j - 1] = 0;
     }
 }
 
-// Clears those of the first n items that a row holds, by a walk over its items.
-fn clear_row(code: u64, n: usize, row: usize, marks: &mut [u8])
-    requires { (n ≤ (family_of code).items) × (n ≤ length marks.old) }
-    ensures { Cleared ((family_of code).on row) n marks.old marks.new }
+// Clears those of the items with marks that a row holds, by a walk over its items.
+fn clear_row(code: u64, row: usize, marks: &mut [u8])
+    ensures { Cleared ((family_of code).on row) (length marks.old) marks.old marks.new }
 {
     let mut items = [0usize; sizes::MOST];
     let held = sizes::items_of(code, row, &mut items);
-    let mut k = 0;
-    while k < held {
-        clear_item(marks, n, items[k]);
-        k += 1;
+    for &j in &items[..held] {
+        clear_item(marks, j);
     }
+}
+
+// How many items are marked.
+fn count_named(marks: &[u8]) -> usize
+    ensures { result ≡ count_up_to (is_marked marks.now) (length marks.now) }
+{
+    marks.iter().filter(|mark| **mark != 0).count()
+}
+
+// Whether j is an item with a mark, and marked.
+fn is_named(marks: &[u8], j: usize) -> bool
+    ensures { result ≡ (inside (length marks.now) j && is_marked marks.now j) }
+{
+    incidence::inside(marks.len(), j) && marks[j - 1] != 0
+}
+
+// Whether one of the items is marked.
+fn any_named(items: &[usize], marks: &[u8]) -> bool
+    ensures { result ≡ list_any (λ j. inside (length marks.now) j && is_marked marks.now j) items.now }
+{
+    items.iter().any(|j| is_named(marks, *j))
+}
+
+// Whether a row holds an item that is marked, by a walk over its items.
+fn holds_named(code: u64, row: usize, marks: &[u8]) -> bool
+    ensures { result ≡ holds_one (family_of code) (is_marked marks.now) (length marks.now) row }
+{
+    let mut items = [0usize; sizes::MOST];
+    let held = sizes::items_of(code, row, &mut items);
+    any_named(&items[..held], marks)
 }
 
 // Whether row i agrees: its difference is zero.
@@ -69,149 +85,105 @@ fn agree(d: &[u8], i: usize) -> bool
     block::is_zero(d, 16 * (i - 1))
 }
 
-// Takes one row: compares it, and where it agrees clears those of the first n items that it holds. Gives 1 where it disagrees, else 0.
-fn take_row(code: u64, n: usize, d: &[u8], row: usize, marks: &mut [u8]) -> usize
-    requires n_bound { (n ≤ (family_of code).items) × (n ≤ length marks.old) }
-    requires le_row { (1 ≤ row) × (16 * row ≤ length d.now) }
-    ensures cleared { Cleared (λ j. agrees_in d.now row && (family_of code).on row j) n marks.old marks.new }
-    ensures counted { result ≡ indicator (not (agrees_in d.now row)) }
+// Takes one row: says whether it agrees, and where it does clears the items that it holds.
+fn take_row(code: u64, d: &[u8], row: usize, marks: &mut [u8]) -> bool
+    requires { (1 ≤ row) × (16 * row ≤ length d.now) }
+    ensures cleared { Cleared (λ j. agrees_in d.now row && (family_of code).on row j) (length marks.old) marks.old marks.new }
+    ensures agrees { result ≡ agrees_in d.now row }
 {
-    if agree(d, row) {
-        clear_row(code, n, row, marks);
-        return 0;
+    let agrees = agree(d, row);
+    if agrees {
+        clear_row(code, row, marks);
     }
-    1
+    agrees
 }
 
-// The pass: takes the first i rows in order, each once, and gives how many of them disagree. It may be any number of rows whose differences
-// d holds; a report takes all rows of its size (document 02, 2.4).
-fn clear_agreeing(code: u64, n: usize, d: &[u8], i: usize, marks: &mut [u8]) -> usize
-    requires n_bound { (n ≤ (family_of code).items) × (n ≤ length marks.old) }
-    requires i_in_bounds { 16 * i ≤ length d.now }
-    ensures cleared { Cleared (cleared (family_of code) (agrees_in d.now) i) n marks.old marks.new }
+// The pass: takes the first i rows in order, each once, and gives how many of them disagree. It may be any number of rows whose
+// differences d holds; a report takes all rows of its size (document 02, 2.4).
+fn clear_agreeing(code: u64, d: &[u8], i: usize, marks: &mut [u8]) -> usize
+    requires { 16 * i ≤ length d.now }
+    ensures cleared { Cleared (cleared (family_of code) (agrees_in d.now) i) (length marks.old) marks.old marks.new }
     ensures rows { result ≡ disagreeing (agrees_in d.now) i }
 {
     let mut others = 0;
-    let mut row = 1;
-    while row <= i {
-        others += take_row(code, n, d, row, marks);
-        row += 1;
+    for row in 1..=i {
+        if !take_row(code, d, row, marks) {
+            others += 1;
+        }
     }
     others
 }
 
-// How many of the first n items are marked.
-fn count_named(marks: &[u8], n: usize) -> usize
-    requires { n ≤ length marks.now }
-    ensures { result ≡ count_up_to (is_marked marks.now) n }
-{
-    let mut found = 0;
-    let mut i = 0;
-    while i < n {
-        if marks[i] != 0 {
-            found += 1;
-        }
-        i += 1;
+// The differences of all rows of a size, which stand in d one behind the other: the XOR of both sums of each.
+#[derive(Clone, Copy)]
+struct Differences<'a> {
+    code: u64,
+    d: &'a [u8],
+    ghost all: { 16 * (family_of code).rows ≤ length d.now },
+}
+
+impl Differences<'_> {
+    // Whether row i disagrees and holds no item that is marked.
+    fn is_unexplained(&self, i: usize, marks: &[u8]) -> bool
+        requires { (1 ≤ i) × (16 * i ≤ length self.now.d.now) }
+        ensures { result ≡ unexplained_in (family_of self.now.code) (agrees_in self.now.d.now) marks.now (length marks.now) i }
+    {
+        !agree(self.d, i) && !holds_named(self.code, i, marks)
     }
-    found
-}
 
-// Whether item j is one of the first n and marked.
-fn is_named(marks: &[u8], n: usize, j: usize) -> bool
-    requires { (1 ≤ j) × (n ≤ length marks.now) }
-    ensures { result ≡ (leb j n && is_marked marks.now j) }
-{
-    j <= n && marks[j - 1] != 0
-}
-
-// Whether a row holds one of the first n items that is marked, by a walk over its items.
-fn holds_named(code: u64, n: usize, row: usize, marks: &[u8]) -> bool
-    requires { (n ≤ (family_of code).items) × (n ≤ length marks.now) }
-    ensures { result ≡ holds_one (family_of code) (is_marked marks.now) n row }
-{
-    let mut items = [0usize; sizes::MOST];
-    let held = sizes::items_of(code, row, &mut items);
-    let mut k = 0;
-    while k < held {
-        if is_named(marks, n, items[k]) {
-            return true;
+    // Whether one of the rows is unexplained.
+    fn find_unexplained(&self, marks: &[u8]) -> bool
+        ensures { result ≡ any_up_to (unexplained_in (family_of self.now.code) (agrees_in self.now.d.now) marks.now (length marks.now)) (family_of self.now.code).rows }
+    {
+        let rows = sizes::rows(self.code);
+        for i in 1..=rows {
+            if self.is_unexplained(i, marks) {
+                return true;
+            }
         }
-        k += 1;
+        false
     }
-    false
-}
 
-// Whether row i disagrees and holds none of the first n items that is marked.
-fn is_unexplained(code: u64, n: usize, d: &[u8], i: usize, marks: &[u8]) -> bool
-    requires n_bound { (n ≤ (family_of code).items) × (n ≤ length marks.now) }
-    requires le_i { (1 ≤ i) × (16 * i ≤ length d.now) }
-    ensures { result ≡ unexplained_in (family_of code) (agrees_in d.now) marks.now n i }
-{
-    !agree(d, i) && !holds_named(code, n, i, marks)
-}
+    // The answer, by the numbers of rows that disagree and of items named. An unexplained row is looked for only where 1 to limit items
+    // are named: elsewhere the answer does not depend on it.
+    fn choose(&self, marks: &[u8], rows: usize, names: usize) -> Answer
+        ensures { result ≡ answer_by (family_of self.now.code).limit rows names (any_up_to (unexplained_in (family_of self.now.code) (agrees_in self.now.d.now) marks.now (length marks.now)) (family_of self.now.code).rows) }
+    {
+        if rows == 0 {
+            return Answer::Intact;
+        }
+        if 1 <= names && names <= sizes::limit(self.code) && !self.find_unexplained(marks) {
+            return Answer::Named;
+        }
+        Answer::Beyond
+    }
 
-// Whether one of the rows is unexplained.
-fn find_unexplained(code: u64, n: usize, d: &[u8], marks: &[u8]) -> bool
-    requires n_bound { (n ≤ (family_of code).items) × (n ≤ length marks.now) }
-    requires code_in_bounds { 16 * (family_of code).rows ≤ length d.now }
-    ensures { result ≡ any_up_to (unexplained_in (family_of code) (agrees_in d.now) marks.now n) (family_of code).rows }
-{
-    let rows = sizes::rows(code);
-    let mut i = 0;
-    while i < rows {
-        i += 1;
-        if is_unexplained(code, n, d, i, marks) {
-            return true;
+    // Decodes as many items as there are marks, and writes these: 1 named and 0 cleared.
+    fn decode(&self, marks: &mut [u8]) -> Decoded
+        ensures written { marks.new ≡ marks_of (named (family_of self.now.code) (agrees_in self.now.d.now)) (length marks.old) }
+        ensures answer { result.answer ≡ answer (family_of self.now.code) (agrees_in self.now.d.now) (length marks.old) }
+        ensures named { result.named ≡ number_named (family_of self.now.code) (agrees_in self.now.d.now) (length marks.old) }
+        ensures rows { result.rows ≡ disagreeing (agrees_in self.now.d.now) (family_of self.now.code).rows }
+    {
+        marks.fill(1);
+        let rows = clear_agreeing(self.code, self.d, sizes::rows(self.code), marks);
+        let names = count_named(marks);
+        Decoded {
+            answer: self.choose(marks, rows, names),
+            named: names,
+            rows,
         }
     }
-    false
 }
 
-// The answer, by the numbers of rows that disagree and of items named. An unexplained row is looked for only where 1 to limit items are
-// named: elsewhere the answer does not depend on it.
-fn choose(code: u64, n: usize, d: &[u8], marks: &[u8], rows: usize, names: usize) -> Answer
-    requires n_bound { (n ≤ (family_of code).items) × (n ≤ length marks.now) }
-    requires code_in_bounds { 16 * (family_of code).rows ≤ length d.now }
-    ensures { result ≡ answer_by (family_of code).limit rows names (any_up_to (unexplained_in (family_of code) (agrees_in d.now) marks.now n) (family_of code).rows) }
-{
-    if rows == 0 {
-        return Answer::Intact;
-    }
-    if 1 <= names && names <= sizes::limit(code) && !find_unexplained(code, n, d, marks) {
-        return Answer::Named;
-    }
-    Answer::Beyond
-}
-
-// Decodes n items from an array of differences: writes their marks, 1 named and 0 cleared, to the front of marks; what is behind them
-// stays.
-fn decode(code: u64, n: usize, d: &[u8], marks: &mut [u8]) -> Decoded
-    requires n_bound { (n ≤ (family_of code).items) × (n ≤ length marks.old) }
-    requires code_in_bounds { 16 * (family_of code).rows ≤ length d.now }
-    ensures written { marks.new ≡ marks_of (named (family_of code) (agrees_in d.now)) n ++ drop n marks.old }
-    ensures answer { result.answer ≡ answer (family_of code) (agrees_in d.now) n }
-    ensures named { result.named ≡ number_named (family_of code) (agrees_in d.now) n }
-    ensures rows { result.rows ≡ disagreeing (agrees_in d.now) (family_of code).rows }
-{
-    mark_all(marks, n, 1);
-    let rows = clear_agreeing(code, n, d, sizes::rows(code), marks);
-    let names = count_named(marks, n);
-    Decoded {
-        answer: choose(code, n, d, marks, rows, names),
-        named: names,
-        rows: rows,
-    }
-}
-
-// What is decoded of n items where every row agrees: all are cleared.
-fn intact(n: usize, marks: &mut [u8]) -> Decoded
-    requires { n ≤ length marks.old }
-    ensures written { marks.new ≡ zeros n ++ drop n marks.old }
+// What is decoded where every row agrees: all items are cleared.
+fn intact(marks: &mut [u8]) -> Decoded
+    ensures written { marks.new ≡ zeros (length marks.old) }
     ensures answer { result.answer ≡ Intact }
     ensures named { result.named ≡ 0 }
     ensures rows { result.rows ≡ 0 }
 {
-    mark_all(marks, n, 0);
+    marks.fill(0);
     Decoded {
         answer: Answer::Intact,
         named: 0,
@@ -231,8 +203,8 @@ pub fn decode_tags(code: u64, n: usize, sums: &mut [u8], marks: &mut [u8]) -> De
     ensures rows { result.rows ≡ disagreeing (agrees_from (family_of code) sums.old) (family_of code).rows }
 {
     if block::all_zero(sums, sizes::tags(code)) {
-        return intact(n, marks);
+        return intact(&mut marks[..n]);
     }
     sums::fill_rows(code, sums);
-    decode(code, n, sums, marks)
+    Differences { code, d: sums }.decode(&mut marks[..n])
 }

@@ -1,10 +1,9 @@
 -- The lines of the four sizes: one more behind the others, those of the patterns in use, and that they fit 256 bytes.
 use Rattle.std.specs.Prelude.{◌≡◌, ◌++◌, ◌+◌, ◌-◌, ◌≤◌}
-use Rattle.fips197.proofs.Kit.{refl, sym, ap, ap₂, ◌∙◌, Bool, true, List, ℕ, zero, suc, zero-add, arith, leb, length, take, drop, leb-true}
+use Rattle.fips197.proofs.Kit.{refl, ap, ap₂, ◌∙◌, Bool, true, List, ℕ, zero, suc, arith, leb, length, length-append, drop, leb-true}
 use Rattle.incidence.proofs.Counting.{every, every_at}
 use Rattle.plane.specs.Table.{pattern_lists, plane_pattern}
-use Rattle.printing.specs.Text.{ascii, digits, decimal, labelled, over}
-use Rattle.printing.proofs.Putting.{Put, over-front, put_as, put_size, put_front, put_counts}
+use Rattle.printing.specs.Text.{ascii, digits, decimal, labelled}
 use Rattle.derivation.specs.Derived.{derived}
 use Rattle.derivation.specs.Lines.{words, pattern_line, pattern_lines}
 use Rattle.derivation.proofs.Planes.{derived_in_use}
@@ -34,26 +33,16 @@ lines_fit : (n : ℕ) → n ≤ 4 → length (pattern_lines derived n) ≤ 256
 unfolding fit_test
 lines_fit n h = omega (arith, ap length (lines_in_use n h), leb-true (length (pattern_lines plane_pattern n)) 256 (every_at fit_test 5 fits n (omega arith)))
 
-pub lines_room : (s long : ℕ) → 1 ≤ s → s ≤ 4 → 256 ≤ long → 0 + length (pattern_lines derived (s - 1) ++ pattern_line s (derived s)) ≤ long
-lines_room s long l u e =
+-- one line more, and room for it
+pub lines_next : (s : ℕ) (l l' : List ℕ) → 1 ≤ s → l ≡ pattern_lines derived (s - 1) → l' ≡ l ++ pattern_line s (derived s)
+    → l' ≡ pattern_lines derived (s + 1 - 1)
+lines_next s l l' h e f = f ∙ ap (λ (x : List ℕ). x ++ pattern_line s (derived s)) e ∙ lines_more s h
+
+pub lines_room : (s : ℕ) (l : List ℕ) → 1 ≤ s → s ≤ 4 → l ≡ pattern_lines derived (s - 1) → length l + length (pattern_line s (derived s)) ≤ 256
+lines_room s l h u e =
     let f : length (pattern_lines derived (s + 1 - 1)) ≤ 256 = lines_fit (s + 1 - 1) (omega arith) in
-    omega (arith, ap length (lines_more s l))
+    omega (arith, ap length (lines_more s h), length-append (pattern_lines derived (s - 1)) (pattern_line s (derived s)), ap length e)
 
--- behind the last line
-pub lines_size : (k : ℕ) (out out' : List ℕ) (r : ℕ) → k ≤ 4 → 256 ≤ length out → Put 0 (pattern_lines derived k) out r out'
-    → length out' ≡ length out
-lines_size k out out' r h l p = put_size 0 r (pattern_lines derived k) out out' (omega (arith, lines_fit k h)) p
-
-pub lines_all : (k : ℕ) (out out' : List ℕ) (r : ℕ) → k ≡ 4 → Put 0 (pattern_lines derived k) out r out'
-    → (out' ≡ over 0 (pattern_lines derived 4) out) × (r ≡ length (pattern_lines derived 4))
-lines_all k out out' r e p = put_front r (pattern_lines derived 4) out out' (put_as _ _ _ _ _ _ (ap (pattern_lines derived) e) p)
-
-module _ (r : ℕ) (out out' : List ℕ) (w : out' ≡ over 0 (pattern_lines derived 4) out) (e : r ≡ length (pattern_lines derived 4)) where
-  pub all_derived : out' ≡ pattern_lines derived 4 ++ drop (length (pattern_lines derived 4)) out
-  all_derived = w ∙ over-front (pattern_lines derived 4) out
-
-  pub all_in_use : out' ≡ pattern_lines plane_pattern 4 ++ drop (length (pattern_lines plane_pattern 4)) out
-  all_in_use = all_derived ∙ ap (λ (l : List ℕ). l ++ drop (length l) out) (lines_in_use 4 (omega arith))
-
-  pub all_counts : length out' ≡ length out → (r ≤ length out') × (r ≡ length (take r out'))
-  all_counts = put_counts r (pattern_lines derived 4) out out' (w, e ∙ sym (zero-add (length (pattern_lines derived 4))))
+pub all_in_use : (out out' : List ℕ) → out' ≡ pattern_lines derived 4 ++ drop (length (pattern_lines derived 4)) out
+    → out' ≡ pattern_lines plane_pattern 4 ++ drop (length (pattern_lines plane_pattern 4)) out
+all_in_use out out' e = e ∙ ap (λ (l : List ℕ). l ++ drop (length l) out) (lines_in_use 4 (omega arith))

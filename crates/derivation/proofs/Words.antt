@@ -1,7 +1,8 @@
 -- The words of a pattern: one step more, and the room that fewer take.
 use Rattle.std.specs.Prelude.{◌≡◌, ◌∷◌, ◌++◌, ◌+◌, ◌≤◌, ◌<◌}
-use Rattle.fips197.proofs.Kit.{refl, sym, ap, ap₂, ◌∙◌, List, [], append-nil, append_assoc, ℕ, zero, suc, arith, add-one, length, get_or, take, drop, length-append, take_at}
+use Rattle.fips197.proofs.Kit.{refl, sym, ap, ap₂, ◌∙◌, List, [], append-nil, append_assoc, ℕ, zero, suc, arith, add-one, length, get_or, take, drop, length-append, take_at, take_all, take-length}
 use Rattle.printing.specs.Text.{labelled}
+use Rattle.printing.proofs.Behind.{two}
 use Rattle.derivation.specs.Lines.{words}
 use Rattle.derivation.specs.Derived.{derived}
 
@@ -25,19 +26,30 @@ words_fewer (k ∷ P) (suc i) zero h = absurd (omega arith)
 words_fewer (k ∷ P) (suc i) (suc n) h =
     omega (arith, length-append (labelled " " k) (words (take i P)), length-append (labelled " " k) (words (take n P)), words_fewer P i n (omega arith))
 
--- where there is room for n steps, there is for i of them and the one behind them
-pub words_room : (at i n : ℕ) (P s : List ℕ) → i < n → n ≤ length P → at + length (words (take n P)) ≤ length s
-    → at + length (words (take i P) ++ labelled " " (get_or P i 0)) ≤ length s
-words_room at i n P s h l room =
-    let e : length (words (take (i + 1) P)) ≡ length (words (take i P) ++ labelled " " (get_or P i 0)) = ap length (words-next P i (omega arith)) in
-    let f = words_fewer P (i + 1) n (omega arith) in
-    omega (arith, e, f)
+-- the step behind the first i is put, where there is room for all
+module _ (i : ℕ) (P s s₁ : List ℕ) (e : s₁ ≡ s ++ words (take i P)) where
+  pub words_put : (s₂ : List ℕ) → i < length P → s₂ ≡ s₁ ++ labelled " " (get_or P i 0) → s₂ ≡ s ++ words (take (i + 1) P)
+  words_put s₂ h f = two s (words (take i P)) (labelled " " (get_or P i 0)) e f ∙ ap (λ (l : List ℕ). s ++ l) (sym (words-next P i h))
+
+  pub words_all : length P ≤ i → s₁ ≡ s ++ words P
+  words_all h = e ∙ ap (λ (l : List ℕ). s ++ words l) (take_all i P h)
+
+pub words_room : (room i : ℕ) (P s s₁ : List ℕ) → i < length P → length s + length (words P) ≤ room → s₁ ≡ s ++ words (take i P)
+    → length s₁ + length (labelled " " (get_or P i 0)) ≤ room
+words_room room i P s s₁ h fits e =
+    let f = words_fewer P (i + 1) (length P) (omega arith) in
+    omega (
+      arith,
+      ap length (words-next P i h),
+      length-append (words (take i P)) (labelled " " (get_or P i 0)),
+      ap length e,
+      length-append s (words (take i P)),
+      ap (λ (l : List ℕ). length (words l)) (take-length P),
+      f,
+    )
 
 -- ---- the steps of a pattern at the front of an array
 
 module _ (s n : ℕ) (l o : List ℕ) (e : l ≡ derived s ++ drop (length (derived s)) o) (f : n ≡ length (derived s)) where
-  pub front_fits : n ≤ length l
-  front_fits = omega (arith, f, ap length e, length-append (derived s) (drop (length (derived s)) o))
-
   pub words-front : words (take n l) ≡ words (derived s)
   words-front = ap words (ap₂ take f e ∙ take_at (derived s) (drop (length (derived s)) o) (length (derived s)) refl)

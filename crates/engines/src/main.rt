@@ -15,41 +15,31 @@ use trial::{inputs, say, sessions};
 fn chain(w: [u8; 176], first: [u8; 16]) -> bool {
     let mut x = first;
     let mut agree = true;
-    let mut i: u64 = 0;
-    while i < 1000 {
+    for _ in 0..1000 {
         let y = tables::encipher_with(w, x);
-        agree = agree && block::equal(y, plain::encipher_with(w, x)) && back(w, x, y);
+        agree = agree && y == plain::encipher_with(w, x) && back(w, x, y);
         x = y;
-        i += 1;
     }
     agree
 }
 
 // Whether both engines decipher a block so.
 fn back(w: [u8; 176], x: [u8; 16], y: [u8; 16]) -> bool {
-    block::equal(x, tables::decipher_with(w, y)) && block::equal(x, plain::decipher_with(w, y))
+    x == tables::decipher_with(w, y) && x == plain::decipher_with(w, y)
 }
 
-// A block enciphered, or deciphered, by the plain engine.
-fn by_plain(w: [u8; 176], to_tag: bool, x: [u8; 16]) -> [u8; 16] {
-    if to_tag {
-        return plain::encipher_with(w, x);
-    }
-    plain::decipher_with(w, x)
-}
-
-// Document 01, keys and codes: t tags made of their sums, or sums had back from their tags, by the plain engine.
-fn turn(w: [u8; 176], to_tag: bool, t: usize, s: &[u8], from: usize, out: &mut [u8], to: usize)
-    requires { (from + 16 * t ≤ length s.now) × (to + 16 * t ≤ length out.old) }
+// Document 01, keys and codes: tags made of their sums, or sums had back from their tags, as `engine` turns a block.
+fn turn<F: Fn([u8; 176], [u8; 16]) -> [u8; 16]>(engine: F, from: &[u8], to: &mut [u8])
+    requires callable { F.IsAlwaysCallable engine }
+    requires room { length from.now ≤ length to.old }
 {
+    let w = tag_schedule();
     let mut mask = plain::encipher_with(w, [0u8; 16]);
-    let mut k = 0;
-    while k < t {
+    for k in 0..from.len() / 16 {
         let next = block::double(mask);
-        let x = block::xor(next, block::block_at(s, from + 16 * k));
-        block::put_at(out, to + 16 * k, block::xor(next, by_plain(w, to_tag, x)));
+        let x = block::xor(next, block::block_at(from, 16 * k));
+        block::put_at(to, 16 * k, block::xor(next, engine(w, x)));
         mask = next;
-        k += 1;
     }
 }
 
@@ -66,10 +56,13 @@ fn tagged_by_plain(
     requires { (t ≤ 82) × (16 * t ≤ length sums.now) }
 {
     let mut out = sheet;
-    let zeros = [0u8; sums::TAGS_MOST];
     let end = 16 * t;
-    inputs::put(&mut out, inputs::TAGS_AT, &zeros[0..end]);
-    turn(tag_schedule(), true, t, sums, 0, &mut out, inputs::TAGS_AT);
+    out[inputs::TAGS_AT..inputs::TAGS_AT + end].fill(0);
+    turn(
+        plain::encipher_with,
+        &sums[..end],
+        &mut out[inputs::TAGS_AT..],
+    );
     out
 }
 
@@ -78,15 +71,8 @@ fn sums_by_plain(sheet: &[u8], t: usize) -> [u8; sums::TAGS_MOST]
     requires { (t ≤ 82) × (12 + 16 * t ≤ length sheet.now) }
 {
     let mut out = [0u8; sums::TAGS_MOST];
-    turn(
-        tag_schedule(),
-        false,
-        t,
-        sheet,
-        inputs::TAGS_AT,
-        &mut out,
-        0,
-    );
+    let tags = &sheet[inputs::TAGS_AT..inputs::TAGS_AT + 16 * t];
+    turn(plain::decipher_with, tags, &mut out);
     out
 }
 
@@ -101,12 +87,11 @@ fn line(rt: &impl Print, code: u64, case: &[u8], yes: bool) -> io::Result<()> {
     say::text(rt, b"size ")?;
     say::number(rt, code)?;
     say::text(rt, case)?;
-    say::either(rt, yes, b": yes\n", b": no\n")
+    say::text(rt, if yes { b": yes\n" } else { b": no\n" })
 }
 
 fn verified(shelf: &[u8], sheet: &[u8]) -> bool {
-    let v = scheme::verify(&KEYS, shelf, sheet);
-    v.yes
+    scheme::verify(&KEYS, shelf, sheet).unwrap_or(false)
 }
 
 // The lines of the plain engine's sheet.
@@ -159,7 +144,7 @@ fn cross(rt: &impl Print, code: u64, n: u64, shelf: &[u8], altered: &[u8]) -> io
     let end = inputs::sheet_length(code);
     let t = (end - 28) / 16;
     let mut sheet = [0u8; files::tagfile::MOST];
-    scheme::tag(&KEYS, code, shelf, &mut sheet);
+    let _ = scheme::tag(&KEYS, code, shelf, &mut sheet);
     let other = tagged_by_plain(sheet, t, &sums_of(code, n, shelf));
     plain_tags(rt, code, shelf, altered, &other[0..end])?;
     tables_tag(rt, code, n, shelf, altered, &sums_by_plain(&sheet, t))?;
@@ -179,15 +164,14 @@ fn size(rt: &impl Print, code: u64) -> io::Result<()> {
 
 fn main(rt: HostRuntime) -> io::Result<()> {
     let agree = chain(tag_schedule(), [0u8; 16]);
-    say::either(
-        &rt,
-        agree,
-        b"1000 blocks both ways by both engines: alike\n",
-        b"1000 blocks both ways by both engines: not alike\n",
-    )?;
-    size(&rt, 1)?;
-    size(&rt, 2)?;
-    size(&rt, 3)?;
-    size(&rt, 4)?;
-    size(&rt, 57)
+    let said = if agree {
+        b"1000 blocks both ways by both engines: alike\n".as_slice()
+    } else {
+        b"1000 blocks both ways by both engines: not alike\n".as_slice()
+    };
+    say::text(&rt, said)?;
+    for code in [1, 2, 3, 4, 57] {
+        size(&rt, code)?;
+    }
+    Ok(())
 }

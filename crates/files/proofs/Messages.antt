@@ -5,11 +5,11 @@ use Rattle.fips197.proofs.Kit.{refl, sym, ap, ap₂, ◌∙◌, Bool, true, fals
 use Rattle.incidence.specs.Count.{inside}
 use Rattle.stamp.specs.Front.{version_of, begins_as}
 use Rattle.stamp.proofs.Fronts.{begins_as_so, begins_as_yes}
-use Rattle.files.specs.declared.Refusal.{Refusal}
+use Rattle.files.specs.Refusals.{Refusal}
 use Rattle.files.specs.Refusals.{refusal, none, unless, first}
 use Rattle.files.specs.Message.{number16, message_letters, newest_message, items_at, item_count, behind, item_start, item_size, refuse3, item_fits, refuse_items, refuse5, refuse8, fetch_refusal, fetch_start, fetch_size, PartOf}
 use Rattle.incidence.proofs.Booleans.{and_left, and_right, and_both, and_false_l, and_false_r}
-use Rattle.files.proofs.Passing.{first_here, first_later, rest-passes, unless_true, unless_false, unless-passes, Plain, plain_unless, plain_first, number_of}
+use Rattle.files.proofs.Passing.{first_here, first_later, rest-passes, unless_true, unless_false, unless-passes, Plain, plain_unless, plain_first, plain_last, number_along}
 
 -- ---- 3
 
@@ -114,18 +114,9 @@ module _ (s : List ℕ) where
       first_later (refuse_items s (item_count s)) _ z
       ∙ (λ i. first (unless (eqb ((ap (behind s) (sym (q ∙ c)) ∙ sym e) i) (length s)) 5 (sym c i + 1) ∷ []))
 
-  pub items-whole : (k at n : ℕ) → refuse_items s k ≡ none → at ≡ behind s k → n ≡ item_count s → k ≤ n → n ≤ k → at ≡ length s → none ≡ refuse5 s
-  unfolding first
-  items-whole k at n p e c a b h =
-      let q : k ≡ n = omega arith in
-      sym (ended k at n p e c q ∙ first_later (unless (eqb at (length s)) 5 (n + 1)) [] (unless_true _ 5 (n + 1) (eq-eqb at (length s) h)))
-
-  pub items-over : (k at n : ℕ) → refuse_items s k ≡ none → at ≡ behind s k → n ≡ item_count s → k ≤ n → n ≤ k → (at ≡ length s → ⊥) → refusal 5 (n + 1) ≡ refuse5 s
-  items-over k at n p e c a b h =
-      let q : k ≡ n = omega arith in
-      sym (ended k at n p e c q
-      ∙ ap (λ (r : Refusal). first (r ∷ [])) (unless_false (eqb at (length s)) 5 (n + 1) (ne_eqb at (length s) h))
-      ∙ first_here (refusal 5 (n + 1)) [] (λ (z : 5 ≡ 0). omega arith))
+  pub items_end : (k at n : ℕ) → refuse_items s k ≡ none → at ≡ behind s k → n ≡ item_count s → k ≡ n → unless (eqb at (length s)) 5 (n + 1) ≡ refuse5 s
+  items_end k at n p e c q =
+      sym (ended k at n p e c q ∙ plain_last (unless (eqb at (length s)) 5 (n + 1)) (plain_unless _ 5 (n + 1) (omega arith)))
 
   -- every item of a file that is not refused fits
   items_fit : (n k : ℕ) → (refuse_items s n).number ≡ 0 → k < n → Fits s (behind s k)
@@ -179,7 +170,7 @@ pub record Fetchable (s : List ℕ) (j : ℕ) : Type 0 where
 pub fetchable : (s : List ℕ) (j : ℕ) (r : Refusal) → r ≡ fetch_refusal s j → r.number ≡ 0 → Fetchable s j
 unfolding fetch_refusal refuse8
 fetchable s j r e h =
-    let a = rest-passes _ _ (number_of r _ e h) in
+    let a = rest-passes _ _ (number_along r _ e h) in
     let b = rest-passes _ _ a.1 in
     let t = unless-passes (leb 1 j && leb j (item_count s)) 8 0 (omega arith) (rest-passes (refuse8 (item_count s) j) [] b.1).0 in
     let l = headed s a.0 in

@@ -1,8 +1,11 @@
 -- Refusals: what passes is none, and the first of a list.
-use Rattle.std.specs.Prelude.{◌≡◌, ◌&&◌, ◌∷◌, ◌++◌, ◌<◌, if◌then◌else◌}
-use Rattle.fips197.proofs.Kit.{refl, sym, ap, ap₂, ◌∙◌, Bool, true, false, List, [], append-nil, ℕ, arith, eqb, eqb-true, eqb-false, eq-eqb, ne_eqb}
-use Rattle.files.specs.declared.Refusal.{Refusal}
-use Rattle.files.specs.Refusals.{refusal, none, unless, passes, first}
+use Rattle.std.specs.Prelude.{◌≡◌, ◌&&◌, ◌∷◌, ◌<◌, if◌then◌else◌}
+use Rattle.std.specs.Prelude.{Result, Ok, Err, is_err}
+use Rattle.fips197.proofs.Kit.{refl, sym, ap, ◌∙◌, Bool, true, false, List, [], ℕ, arith, eqb, eqb-true, eqb-false, eq-eqb, ne_eqb}
+use Rattle.files.specs.declared.refusals.Reason.{Reason}
+use Rattle.files.specs.declared.refusals.Reason.TheVariants.{Keys, Code, Message, Count, Items, TagFile, Room, Number, Item, Mac, Counts, Full, Early, Shut, Numbers}
+use Rattle.files.specs.declared.refusals.Refused.{Refused}
+use Rattle.files.specs.Refusals.{Refusal, refusal, none, unless, passes, first, number_of, told}
 
 -- ---- first
 
@@ -69,78 +72,134 @@ unfolding first
 plain_first [] a h = refl
 plain_first (r ∷ rest) a h = let p = rest-passes r rest h in first_later r rest (a.0 p.0) ∙ plain_first rest a.1 p.1
 
+pub plain_last : (r : Refusal) → Plain r → first (r ∷ []) ≡ r
+plain_last r p = go (passes r) refl
+  where
+    go : (b : Bool) → passes r ≡ b → first (r ∷ []) ≡ r
+    go true e = first-none r (p (eqb-true r.number 0 e)) ∙ sym (p (eqb-true r.number 0 e))
+    go false e = first_here r [] (eqb-false r.number 0 e)
+
 -- ---- r is the refusal that the code has, q the one that the contract names
 
-pub number_of : (r q : Refusal) → r ≡ q → r.number ≡ 0 → q.number ≡ 0
-number_of r q e h = ap (λ (x : Refusal). x.number) (sym e) ∙ h
-
--- a check that does not pass is the first that applies
-pub stop : (r q : Refusal) (rest : List Refusal) → r ≡ q → (r.number ≡ 0 → ⊥) → r ≡ first (q ∷ rest)
-stop r q rest e h = e ∙ sym (first_here q rest (λ z. h (number_of q r (sym e) z)))
-
--- ---- runs of checks in a list
-
-pub here : (r : Refusal) (rest : List Refusal) → (r.number ≡ 0 → ⊥) → r ≡ first (r ∷ rest)
-here r rest h = sym (first_here r rest h)
-
-pub past : (x r : Refusal) (rest : List Refusal) → r.number ≡ 0 → x ≡ first rest → x ≡ first (r ∷ rest)
-past x r rest h e = e ∙ sym (first_past r rest h)
-
-pub end : none ≡ first []
-unfolding first
-end = refl
-
--- the first of a list, then the rest
-flat : (l rest : List Refusal) → first (first l ∷ rest) ≡ first (l ++ rest)
-unfolding first
-flat [] rest = refl
-flat (r ∷ l) rest = go (passes r) refl (flat l rest)
-  where
-    go : (b : Bool) → passes r ≡ b → first (first l ∷ rest) ≡ first (l ++ rest)
-        → first ((if b then first l else r) ∷ rest) ≡ (if b then first (l ++ rest) else r)
-    go true e ih = ih
-    go false e ih = first_here r rest (eqb-false r.number 0 e)
-
-pub run2 : (a b : Refusal) (rest : List Refusal) → first (a ∷ b ∷ rest) ≡ first (first (a ∷ b ∷ []) ∷ rest)
-run2 a b rest = sym (flat (a ∷ b ∷ []) rest)
-
-pub run3 : (a b d : Refusal) (rest : List Refusal) → first (a ∷ b ∷ d ∷ rest) ≡ first (first (a ∷ b ∷ d ∷ []) ∷ rest)
-run3 a b d rest = sym (flat (a ∷ b ∷ d ∷ []) rest)
-
--- a run at the end
-pub run_end : (a : Refusal) (l : List Refusal) → first (a ∷ l) ≡ first (a ∷ first l ∷ [])
-unfolding first
-run_end a l = ap (λ (r : Refusal). if passes a then r else a) (sym (flat l [] ∙ ap first (append-nil l)))
-
--- two lists that are equal entry by entry: l is what the code has, m what the contract names
-pub data Same : List Refusal → List Refusal → Type 0 where
-  same_nil : Same [] []
-  same_cons : {a b : Refusal} {l m : List Refusal} → a ≡ b → Same l m → Same (a ∷ l) (b ∷ m)
-
-same-list : {l m : List Refusal} → Same l m → l ≡ m
-same-list same_nil = refl
-same-list (same_cons e s) = ap₂ ◌∷◌ e (same-list s)
-
-pub same_first : (r : Refusal) (l m : List Refusal) → r ≡ first l → Same l m → r ≡ first m
-same_first r l m e s = e ∙ ap first (same-list s)
-
--- r is the first of the checks by what each of them ensures: `search listed depth 12`
-pub ruleset listed = (same_first, same_nil, same_cons)
-
--- where a list passes, so does each of its first three entries
-pub passes1 : (r a q : Refusal) (rest : List Refusal) → a ≡ q → r ≡ first (a ∷ rest) → r.number ≡ 0 → q.number ≡ 0
-passes1 r a q rest f e h = number_of a q f (rest-passes a rest (number_of r _ e h)).0
-
-pub passes2 : (r a b q : Refusal) (rest : List Refusal) → b ≡ q → r ≡ first (a ∷ b ∷ rest) → r.number ≡ 0 → q.number ≡ 0
-passes2 r a b q rest f e h = passes1 (first (b ∷ rest)) b q rest f refl (rest-passes a (b ∷ rest) (number_of r _ e h)).1
-
-pub passes3 : (r a b d q : Refusal) (rest : List Refusal) → d ≡ q → r ≡ first (a ∷ b ∷ d ∷ rest) → r.number ≡ 0 → q.number ≡ 0
-passes3 r a b d q rest f e h = passes2 (first (b ∷ d ∷ rest)) b d q rest f refl (rest-passes a (b ∷ d ∷ rest) (number_of r _ e h)).1
+pub number_along : (r q : Refusal) → r ≡ q → r.number ≡ 0 → q.number ≡ 0
+number_along r q e h = ap (λ (x : Refusal). x.number) (sym e) ∙ h
 
 -- what a call leaves where it is done, and where it is refused
 module _ {A : Type 0} (r q : Refusal) (e : r ≡ q) (done left : A) where
   pub given : r.number ≡ 0 → done ≡ (if passes q then done else left)
-  given h = ap (λ (t : Bool). if t then done else left) (sym (eq-eqb q.number 0 (number_of r q e h)))
+  given h = ap (λ (t : Bool). if t then done else left) (sym (eq-eqb q.number 0 (number_along r q e h)))
 
   pub kept : (r.number ≡ 0 → ⊥) → left ≡ (if passes q then done else left)
-  kept h = ap (λ (t : Bool). if t then done else left) (sym (ne_eqb q.number 0 (λ z. h (number_of q r (sym e) z))))
+  kept h = ap (λ (t : Bool). if t then done else left) (sym (ne_eqb q.number 0 (λ z. h (number_along q r (sym e) z))))
+
+-- ---- what a result tells
+
+pub number-low : (w : Reason) → 0 < number_of w
+number-low Keys = omega arith
+number-low Code = omega arith
+number-low Message = omega arith
+number-low Count = omega arith
+number-low Items = omega arith
+number-low TagFile = omega arith
+number-low Room = omega arith
+number-low Number = omega arith
+number-low Item = omega arith
+number-low Mac = omega arith
+number-low Counts = omega arith
+number-low Full = omega arith
+number-low Early = omega arith
+number-low Shut = omega arith
+number-low Numbers = omega arith
+
+pub number-high : (w : Reason) → number_of w < 256
+number-high Keys = omega arith
+number-high Code = omega arith
+number-high Message = omega arith
+number-high Count = omega arith
+number-high Items = omega arith
+number-high TagFile = omega arith
+number-high Room = omega arith
+number-high Number = omega arith
+number-high Item = omega arith
+number-high Mac = omega arith
+number-high Counts = omega arith
+number-high Full = omega arith
+number-high Early = omega arith
+number-high Shut = omega arith
+number-high Numbers = omega arith
+
+-- a check that refuses is the first that applies; one that passes leaves it to the rest
+pub told_stop : (e : Refused) (q : Refusal) (rest : List Refusal) → refusal (number_of e.reason) e.place ≡ q
+    → refusal (number_of e.reason) e.place ≡ first (q ∷ rest)
+told_stop e q rest h =
+    h ∙ sym (first_here q rest (λ z. let l = number-low e.reason in let n = ap (λ (x : Refusal). x.number) h in absurd (omega arith)))
+
+pub told_past : (x q : Refusal) (rest : List Refusal) → none ≡ q → x ≡ first rest → x ≡ first (q ∷ rest)
+told_past x q rest h e = e ∙ sym (first_later q rest (sym h))
+
+pub told_last : {A : Type 0} (r : Result A Refused) (q : Refusal) → told r ≡ q → told r ≡ first (q ∷ [])
+told_last (Ok u) q h = sym (first-none q (sym h))
+told_last (Err e) q h = told_stop e q [] h
+
+-- what a call's checks tell is the first of its list, for a function that has them one behind the other
+pub ruleset checked = (told_stop, told_past, told_last)
+
+pub told_passes : (q : Refusal) → none ≡ q → q.number ≡ 0
+told_passes q h = ap (λ (x : Refusal). x.number) (sym h)
+
+-- whether a result is an error says whether what it tells is a refusal
+module _ {A : Type 0} (r : Result A Refused) (q : Refusal) (e : told r ≡ q) where
+  pub told_ok : is_err r ≡ false → q.number ≡ 0
+  told_ok h = number_along (told r) q e (go r h)
+    where
+      go : (x : Result A Refused) → is_err x ≡ false → (told x).number ≡ 0
+      go (Ok u) h = refl
+      go (Err d) h = absurd (cc h)
+
+  pub told_err : is_err r ≡ true → q.number ≡ 0 → ⊥
+  told_err h z = go r h (number_along q (told r) (sym e) z)
+    where
+      go : (x : Result A Refused) → is_err x ≡ true → (told x).number ≡ 0 → ⊥
+      go (Ok u) h z = cc h
+      go (Err d) h z = let l = number-low d.reason in absurd (omega arith)
+
+-- two results that tell the same are the same, so that a contract which says what a result tells settles it
+reason_of : ℕ → Reason
+reason_of n =
+    if eqb n 1 then Keys else if eqb n 2 then Code else if eqb n 3 then Message else if eqb n 4 then Count else if eqb n 5 then Items else if eqb n 6 then TagFile
+    else if eqb n 7 then Room else if eqb n 8 then Number else if eqb n 9 then Item else if eqb n 20 then Mac else if eqb n 21 then Counts else if eqb n 22 then Full
+    else if eqb n 23 then Early else if eqb n 24 then Shut else Numbers
+
+reason_back : (w : Reason) → reason_of (number_of w) ≡ w
+unfolding reason_of
+reason_back Keys = refl
+reason_back Code = refl
+reason_back Message = refl
+reason_back Count = refl
+reason_back Items = refl
+reason_back TagFile = refl
+reason_back Room = refl
+reason_back Number = refl
+reason_back Item = refl
+reason_back Mac = refl
+reason_back Counts = refl
+reason_back Full = refl
+reason_back Early = refl
+reason_back Shut = refl
+reason_back Numbers = refl
+
+pub told_settles : (x y : Result (Unit {0}) Refused) → told x ≡ told y → x ≡ y
+told_settles (Ok u) (Ok v) h = refl
+told_settles (Ok u) (Err d) h = let l = number-low d.reason in let n = ap (λ (r : Refusal). r.number) h in absurd (omega arith)
+told_settles (Err d) (Ok u) h = let l = number-low d.reason in let n = ap (λ (r : Refusal). r.number) h in absurd (omega arith)
+told_settles (Err d) (Err b) h =
+    let w = sym (reason_back d.reason) ∙ ap (λ (r : Refusal). reason_of r.number) h ∙ reason_back b.reason in
+    λ i. Err (record { reason = w i; place = (ap (λ (r : Refusal). r.place) h) i })
+
+-- what a call leaves where its checks pass, and where one refuses
+module _ {A : Type 0} (q : Refusal) (done left : A) where
+  pub given_told : none ≡ q → done ≡ (if passes q then done else left)
+  given_told e = given none q e done left refl
+
+  pub kept_told : (e : Refused) → refusal (number_of e.reason) e.place ≡ q → left ≡ (if passes q then done else left)
+  kept_told e h = kept (refusal (number_of e.reason) e.place) q h done left (λ z. let l = number-low e.reason in absurd (omega arith))

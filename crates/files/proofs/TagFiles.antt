@@ -1,35 +1,17 @@
 -- The tag file: what each check of the code settles, and that what is accepted is what the writer lays out and seals.
-use Rattle.std.specs.Prelude.{◌≡◌, ◌&&◌, ◌∷◌, ◌++◌, ◌+◌, ◌-◌, ◌≤◌, ◌<◌}
-use Rattle.fips197.proofs.Kit.{refl, sym, ap, ap₂, ◌∙◌, Bool, true, false, List, ℕ, arith, leb, length, take, drop, length-append, length-drop, take_all, le-leb, lt-leb}
+use Rattle.std.specs.Prelude.{◌≡◌, ◌&&◌, ◌∷◌, ◌++◌, ◌+◌, ◌-◌, ◌≤◌}
+use Rattle.fips197.proofs.Kit.{refl, sym, ap, ap₂, ◌∙◌, Bool, true, false, List, ℕ, arith, length, take, drop, length-append, length-drop, take_all}
 use Rattle.blocks.specs.Block.{same}
 use Rattle.blocks.specs.Number.{big_endian}
 use Rattle.cipher.specs.Cmac.{cmac}
-use Rattle.sizes.specs.Sizes.{known, family_of}
 use Rattle.files.specs.Refusals.{unless}
 use Rattle.blocks.proofs.Loop.{front_kept, put_behind}
 use Rattle.blocks.proofs.Numbers.{big_endian-length}
 use Rattle.stamp.specs.Front.{front, front_size}
 use Rattle.stamp.proofs.Fronts.{front_length}
 use Rattle.files.specs.declared.tagfile.Head.{Head}
-use Rattle.files.specs.TagFile.{tag_letters, header, tags_at, count_fits, mac_of, body_of, refuse20}
-use Rattle.incidence.proofs.Booleans.{and_false_l, and_false_r}
-
--- ---- size code and count
-
-module _ (c n : ℕ) (k : Bool) (ek : k ≡ known c) where
-  pub fits-known : (m : ℕ) → m ≡ (family_of c).items → k ≡ true → 1 ≤ n → leb n m ≡ count_fits c n
-  unfolding count_fits
-  fits-known m e h l =
-      ap (leb n) e
-      ∙ sym (ap₂ (λ (a b : Bool). a && (b && leb n (family_of c).items)) (sym ek ∙ h) (le-leb 1 n l))
-
-  pub fits-none : k ≡ true → n < 1 → false ≡ count_fits c n
-  unfolding count_fits
-  fits-none h l = sym (and_false_r (known c) _ (and_false_l _ (leb n (family_of c).items) (lt-leb 1 n l)))
-
-  pub fits_unknown : k ≡ false → false ≡ count_fits c n
-  unfolding count_fits
-  fits_unknown h = sym (and_false_l (known c) _ (sym ek ∙ h))
+use Rattle.files.specs.TagFile.{tag_letters, header, tags_at, mac_of, body_of, refuse20}
+use Rattle.incidence.proofs.Booleans.{and_false_l}
 
 -- ---- the bytes before the tags
 

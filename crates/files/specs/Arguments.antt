@@ -3,7 +3,7 @@
 use Rattle.std.specs.Prelude.{ℕ, eqb, leb}
 use Rattle.incidence.specs.Count.{inside}
 use Rattle.sizes.specs.Sizes.{known, family_of}
-use Rattle.files.specs.declared.Refusal.{Refusal}
+use Rattle.files.specs.Refusals.{Refusal}
 use Rattle.files.specs.Refusals.{unless}
 
 -- 1: "keys not 48 bytes"

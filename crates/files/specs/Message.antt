@@ -5,7 +5,7 @@ use Rattle.std.specs.Prelude.{◌≡◌, Bool, ◌&&◌, List, [], ◌∷◌, �
 use Rattle.std.specs.Borrow.{Bor}
 use Rattle.blocks.specs.Number.{number}
 use Rattle.stamp.specs.Front.{front_size, version_of, begins_as}
-use Rattle.files.specs.declared.Refusal.{Refusal}
+use Rattle.files.specs.Refusals.{Refusal}
 use Rattle.files.specs.Refusals.{none, unless, passes, first}
 
 -- the 2-byte number at a place

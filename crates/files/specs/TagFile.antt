@@ -9,7 +9,7 @@ use Rattle.incidence.specs.Count.{inside}
 use Rattle.sizes.specs.Sizes.{known, family_of}
 use Rattle.stamp.specs.declared.Stamp.{Stamp}
 use Rattle.stamp.specs.Front.{front, front_size, stamp_fits, version_of, stamp_of, begins_as}
-use Rattle.files.specs.declared.Refusal.{Refusal}
+use Rattle.files.specs.Refusals.{Refusal}
 use Rattle.files.specs.declared.tagfile.Head.{Head}
 use Rattle.files.specs.Refusals.{unless}
 use Rattle.files.specs.Message.{number16}

@@ -6,9 +6,4 @@ pub mod message;
 pub mod refusals;
 pub mod tagfile;
 
-// A refusal (document 01): its number and place; number 0 where there is none.
-#[derive(Clone, Copy)]
-pub struct Refusal {
-    pub number: u8,
-    pub place: usize,
-}
+pub use refusals::{Reason, Refused};

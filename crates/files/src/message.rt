@@ -1,12 +1,12 @@
 // The message file (document 01: shelf).
-ghost use Rattle.std.specs.Prelude.{◌≡◌, ◌+◌, ◌≤◌, ◌<◌, length};
+ghost use Rattle.std.specs.Prelude.{◌≡◌, ◌+◌, ◌≤◌, ◌<◌, length, IfOk};
 ghost use Rattle.stamp.specs.Front.{version_of};
-ghost use Rattle.files.specs.Refusals.{none};
+ghost use Rattle.files.specs.Refusals.{none, told};
 ghost use Rattle.files.specs.Message.{number16, items_at, item_count, behind, item_fits, refuse3, refuse5, refuse8, fetch_refusal, fetch_start, fetch_size, PartOf};
 ghost use Rattle.files.specs.Arguments.{refuse4};
 
-use crate::refusals::{first3, unless};
-use crate::{Refusal, arguments};
+use crate::arguments;
+use crate::refusals::{Reason, Refused, unless};
 use blocks::block;
 
 // The letters, the newest version, and how many bytes the count has.
@@ -36,7 +36,8 @@ pub fn items_at(version: u16) -> usize
     stamp::front_size(version) + COUNT_SIZE as usize
 }
 
-// The count that a file says.
+// The count that a file says: of any bytes as long as a head in their version, since the command asks it of bytes that no check has passed;
+// `Headed::count` asks nothing.
 pub fn item_count(s: &[u8]) -> usize
     requires { items_at (version_of s.now) ≤ length s.now }
     ensures { (result ≡ item_count s.now) × (result < 65536) }
@@ -44,122 +45,108 @@ pub fn item_count(s: &[u8]) -> usize
     number16(s, stamp::front_size(stamp::version_of(s)))
 }
 
+// Where the first item of a file, or what is left over, starts: its length.
+pub fn first_at(s: &[u8]) -> usize
+    requires { items_at (version_of s.now) ≤ length s.now }
+    ensures { result ≡ behind s.now 0 }
+{
+    items_at(stamp::version_of(s))
+}
+
+// Whether the item at a place and its length lie in the file, and the length is at most 1,024.
+fn item_fits(s: &[u8], at: usize) -> bool
+    requires { at ≤ 65536 }
+    ensures { result ≡ item_fits s.now at }
+{
+    if s.len() < at + 2 {
+        return false;
+    }
+    let n = number16(s, at);
+    n <= ITEM_MOST && at + 2 + n <= s.len()
+}
+
+// The place behind the item at a place, which fits.
+pub fn item_end(s: &[u8], at: usize) -> usize
+    requires { (at + 2 ≤ length s.now) × (length s.now ≤ 65536) }
+    ensures { result ≡ at + 2 + number16 s.now at }
+{
+    at + 2 + number16(s, at)
+}
+
 // Refusal 3, or none.
-pub fn check_header(s: &[u8]) -> Refusal
-    ensures { result ≡ refuse3 s.now }
+fn check_header(s: &[u8]) -> Result<(), Refused>
+    ensures { told result ≡ refuse3 s.now }
 {
-    let letters = LETTERS;
-    if stamp::begins_as(s, &letters, NEWEST, COUNT_SIZE) {
-        return unless(s.len() <= MOST, 3, 0);
-    }
-    Refusal {
-        number: 3,
-        place: 0,
-    }
+    let begins = stamp::begins_as(s, &LETTERS, NEWEST, COUNT_SIZE);
+    unless(begins && s.len() <= MOST, Reason::Message, 0)
 }
 
-// Where a walk over the items stands: behind so many of them.
+// A message file that 3 does not refuse.
 #[derive(Clone, Copy)]
-pub struct Cursor {
-    pub at: usize,
-    pub passed: usize,
+pub struct Headed<'a> {
+    pub bytes: &'a [u8],
+    ghost headed: { (refuse3 bytes.now).number ≡ 0 },
 }
 
-impl Cursor {
-    // Before the first item of a file.
-    pub fn first(s: &[u8]) -> Cursor
-        requires { items_at (version_of s.now) ≤ length s.now }
-        ensures { (result.at ≡ behind s.now 0) × (result.passed ≡ 0) }
+impl<'a> Headed<'a> {
+    // The file, or refusal 3.
+    pub fn new(s: &'a [u8]) -> Result<Headed<'a>, Refused>
+        ensures refused { told result ≡ refuse3 s.now }
+        ensures same { IfOk result (λ m. m.bytes.now ≡ s.now) }
     {
-        Cursor {
-            at: items_at(stamp::version_of(s)),
-            passed: 0,
-        }
+        check_header(s)?;
+        Ok(Headed { bytes: s })
     }
 
-    // Whether the next item and its length lie in the file, and the length is at most 1,024.
-    pub fn fits(self, s: &[u8]) -> bool
-        requires { self.at ≤ 65536 }
-        ensures { result ≡ item_fits s.now self.at }
+    // The count that it says.
+    pub fn count(&self) -> usize
+        ensures { (result ≡ item_count self.now.bytes.now) × (result < 65536) }
     {
-        let at = self.at;
-        if s.len() < at + 2 {
-            return false;
-        }
-        let n = number16(s, at);
-        if ITEM_MOST < n {
-            return false;
-        }
-        at + 2 + n <= s.len()
+        item_count(self.bytes)
     }
 
-    // Behind the next item, which fits.
-    pub fn next(self, s: &[u8]) -> Cursor
-        requires { (self.at + 2 ≤ length s.now) × (self.passed < 65536) × (length s.now ≤ 65536) }
-        ensures { (result.at ≡ self.at + 2 + number16 s.now self.at) × (result.passed ≡ self.passed + 1) }
+    // Refusal 5, or none.
+    pub fn check_items(&self) -> Result<(), Refused>
+        ensures { told result ≡ refuse5 self.now.bytes.now }
     {
-        let at = self.at;
-        Cursor {
-            at: at + 2 + number16(s, at),
-            passed: self.passed + 1,
+        let s = self.bytes;
+        let n = self.count();
+        let mut at = first_at(s);
+        for k in 0..n {
+            if !item_fits(s, at) {
+                return Err(Refused {
+                    reason: Reason::Items,
+                    place: k + 1,
+                });
+            }
+            at = item_end(s, at);
         }
+        unless(at == s.len(), Reason::Items, n + 1)
     }
-}
 
-// Refusal 5, or none.
-pub fn check_items(s: &[u8]) -> Refusal
-    requires { (refuse3 s.now).number ≡ 0 }
-    ensures { result ≡ refuse5 s.now }
-{
-    let n = item_count(s);
-    let mut c = Cursor::first(s);
-    while c.passed < n {
-        if c.fits(s) {
-            c = c.next(s);
-        } else {
-            return Refusal {
-                number: 5,
-                place: c.passed + 1,
-            };
-        }
+    // Refusal 4, or none, of its count.
+    pub fn check_count(&self, code: u64) -> Result<(), Refused>
+        ensures { told result ≡ refuse4 code (item_count self.now.bytes.now) }
+    {
+        arguments::check_count(code, self.count() as u64)
     }
-    if c.at == s.len() {
-        return Refusal {
-            number: 0,
-            place: 0,
-        };
-    }
-    Refusal {
-        number: 5,
-        place: n + 1,
-    }
-}
 
-// Refusal 4, or none, of the count that a file says.
-pub fn check_count(code: u64, s: &[u8]) -> Refusal
-    requires { (refuse3 s.now).number ≡ 0 }
-    ensures { result ≡ refuse4 code (item_count s.now) }
-{
-    arguments::check_count(code, item_count(s) as u64)
-}
-
-// Refusal 8, or none, of an item number.
-fn check_number(s: &[u8], j: u64) -> Refusal
-    requires { (refuse3 s.now).number ≡ 0 }
-    ensures { result ≡ refuse8 (item_count s.now) j }
-{
-    arguments::check_number(item_count(s), j)
+    // Refusal 8, or none, of an item number.
+    fn check_number(&self, j: u64) -> Result<(), Refused>
+        ensures { told result ≡ refuse8 (item_count self.now.bytes.now) j }
+    {
+        arguments::check_number(self.count(), j)
+    }
 }
 
 // Fetch's companion: its refusal (3, 5, 8), or none.
-pub fn fetch_refusal(s: &[u8], j: u64) -> Refusal
-    ensures { result ≡ fetch_refusal s.now j }
+#[tactic(auto, using(crate::proofs::Passing::checked), unfolding(crate::specs::Message::fetch_refusal))]
+pub fn fetch_refusal(s: &[u8], j: u64) -> Result<(), Refused>
+    ensures { told result ≡ fetch_refusal s.now j }
 {
-    let r = check_header(s);
-    if r.number != 0 {
-        return r;
-    }
-    first3(r, check_items(s), check_number(s, j))
+    let message = Headed::new(s)?;
+    message.check_items()?;
+    message.check_number(j)
 }
 
 // The place behind the first k items of a file that is not refused.
@@ -167,11 +154,11 @@ fn seek(s: &[u8], k: usize) -> usize
     requires { (items_at (version_of s.now) ≤ length s.now) × (length s.now ≤ 65536) × (refuse5 s.now ≡ none) × (k < item_count s.now) }
     ensures { (result ≡ behind s.now k) × (result + 2 + number16 s.now result ≤ length s.now) }
 {
-    let mut c = Cursor::first(s);
-    while c.passed < k {
-        c = c.next(s);
+    let mut at = first_at(s);
+    for _i in 0..k {
+        at = item_end(s, at);
     }
-    c.at
+    at
 }
 
 // The item as the part of the file that holds it (document 01: Fetch); the empty part at the front where fetch_refusal tells a
@@ -179,8 +166,7 @@ fn seek(s: &[u8], k: usize) -> usize
 pub fn fetch(s: &[u8], j: u64) -> &[u8]
     ensures { PartOf s.entry (fetch_start s.now j) (fetch_size s.now j) result }
 {
-    let refused = fetch_refusal(s, j);
-    if refused.number != 0 {
+    if fetch_refusal(s, j).is_err() {
         return &s[..0];
     }
     let at = seek(s, (j - 1) as usize);

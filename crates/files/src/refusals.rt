@@ -1,56 +1,51 @@
-// Refusals: none or one by a test, and the first that applies of a list. Each entry of a call's list is one function whose result is
-// that entry; a call puts its entries into `first2` to `first6` in document 01's order.
-ghost use Rattle.std.specs.Prelude.{◌≡◌, [], ◌∷◌};
-ghost use Rattle.files.specs.Refusals.{unless, first};
+// Refusals: why a call refuses (document 01, 'From the input' and 'From the state'), as the error of its result. A call's checks stand one
+// behind the other in document 01's order, each with a `?`, so that the first that applies is the call's.
+ghost use Rattle.std.specs.Prelude.{◌≡◌};
+ghost use Rattle.files.specs.Refusals.{number_of, told, unless};
 
-use crate::Refusal;
+// Why, each by document 01's number.
+#[derive(Clone, Copy, PartialEq, Eq, Debug)]
+pub enum Reason {
+    Keys = 1,
+    Code = 2,
+    Message = 3,
+    Count = 4,
+    Items = 5,
+    TagFile = 6,
+    Room = 7,
+    Number = 8,
+    Item = 9,
+    Mac = 20,
+    Counts = 21,
+    Full = 22,
+    Early = 23,
+    Shut = 24,
+    Numbers = 25,
+}
 
-// No refusal where the test holds, else the one with this number and place.
-pub fn unless(ok: bool, number: u8, place: usize) -> Refusal
-    ensures { result ≡ unless ok number place }
+impl Reason {
+    // Document 01's number.
+    pub fn number(self) -> u8
+        ensures { result ≡ number_of self }
+    {
+        self as u8
+    }
+}
+
+// A refusal: why, and the place where document 01 names one, else 0.
+#[derive(Clone, Copy, PartialEq, Eq, Debug)]
+pub struct Refused {
+    pub reason: Reason,
+    pub place: usize,
+}
+
+// Refuses where the test does not hold.
+pub fn unless(ok: bool, reason: Reason, place: usize) -> Result<(), Refused>
+    ensures { told result ≡ unless ok (number_of reason) place }
 {
     if ok {
-        return Refusal {
-            number: 0,
-            place: 0,
-        };
+        Ok(())
+    } else {
+        Err(Refused { reason, place })
     }
-    Refusal { number, place }
-}
-
-// The first of two that applies, or none.
-pub fn first2(a: Refusal, b: Refusal) -> Refusal
-    ensures { result ≡ first (a ∷ b ∷ []) }
-{
-    if a.number != 0 {
-        return a;
-    }
-    if b.number != 0 {
-        return b;
-    }
-    Refusal {
-        number: 0,
-        place: 0,
-    }
-}
-
-// Of three.
-pub fn first3(a: Refusal, b: Refusal, c: Refusal) -> Refusal
-    ensures { result ≡ first (a ∷ b ∷ c ∷ []) }
-{
-    first2(first2(a, b), c)
-}
-
-// Of four.
-pub fn first4(a: Refusal, b: Refusal, c: Refusal, d: Refusal) -> Refusal
-    ensures { result ≡ first (a ∷ b ∷ c ∷ d ∷ []) }
-{
-    first3(first2(a, b), c, d)
-}
-
-// Of six.
-pub fn first6(a: Refusal, b: Refusal, c: Refusal, d: Refusal, e: Refusal, f: Refusal) -> Refusal
-    ensures { result ≡ first (a ∷ b ∷ c ∷ d ∷ e ∷ f ∷ []) }
-{
-    first4(first3(a, b, c), d, e, f)
 }

@@ -1,16 +1,16 @@
 // The tag file (document 01: sheet).
-ghost use Rattle.std.specs.Prelude.{◌≡◌, ◌+◌, ◌≤◌, ◌<◌, ◌&&◌, ◌∷◌, ◌++◌, eqb, length, take, drop};
+ghost use Rattle.std.specs.Prelude.{◌≡◌, ◌+◌, ◌≤◌, ◌<◌, ◌&&◌, ◌∷◌, ◌++◌, eqb, length, take, drop, IfOk};
 ghost use Rattle.blocks.specs.Number.{big_endian};
 ghost use Rattle.cipher.specs.Cmac.{cmac};
-ghost use Rattle.cipher.specs.Engine.{EngineTables};
 ghost use Rattle.stamp.specs.Front.{version_of};
+ghost use Rattle.files.specs.Refusals.{told};
 ghost use Rattle.files.specs.Message.{refuse8};
 ghost use Rattle.files.specs.TagFile.{stamp_for, header, tags_at, file_size, code_of, count_of, head_of, tags_in, count_fits, refuse6, refuse20};
 ghost use Rattle.files.specs.Arguments.{refuse7};
 
+use crate::arguments;
 use crate::message::number16;
-use crate::refusals::unless;
-use crate::{Refusal, arguments};
+use crate::refusals::{Reason, Refused, unless};
 use blocks::block;
 use cipher::cmac;
 use cipher::engine::Tables;
@@ -36,24 +36,11 @@ pub struct Head {
     pub count: usize,
 }
 
-// A byte, wider.
-fn wide(x: u8) -> u64
-    ensures { result ≡ x }
-{
-    x as u64
-}
-
 // Whether a size code is one, and a count is from 1 to its items.
 pub fn count_fits(code: u64, n: u64) -> bool
     ensures { result ≡ count_fits code n }
 {
-    if sizes::known(code) {
-        if 1 <= n {
-            return n <= sizes::items(code) as u64;
-        }
-        return false;
-    }
-    false
+    sizes::known(code) && arguments::inside(sizes::items(code) as u64, n)
 }
 
 // The stamp of a file made anew for a message's number.
@@ -90,20 +77,6 @@ fn fits(s: &[u8]) -> bool
     count_fits(h.code, h.count as u64) && s.len() == file_size(h)
 }
 
-// Refusal 6, or none.
-pub fn check(s: &[u8]) -> Refusal
-    ensures { result ≡ refuse6 s.now }
-{
-    let letters = LETTERS;
-    if stamp::begins_as(s, &letters, NEWEST, CODE_COUNT_SEAL) {
-        return unless(fits(s), 6, 0);
-    }
-    Refusal {
-        number: 6,
-        place: 0,
-    }
-}
-
 // What a file says before its tags.
 pub fn head_of(s: &[u8]) -> Head
     requires { tags_at (version_of s.now) ≤ length s.now }
@@ -113,7 +86,7 @@ pub fn head_of(s: &[u8]) -> Head
     let at = stamp::front_size(stamp.version);
     Head {
         stamp,
-        code: wide(s[at]),
+        code: u64::from(s[at]),
         count: number16(s, at + 1),
     }
 }
@@ -128,32 +101,61 @@ pub fn tags_in(s: &[u8]) -> &[u8]
     &s[at..end]
 }
 
-// Refusal 8, or none, of an item number.
-pub fn check_number(s: &[u8], j: u64) -> Refusal
-    requires { (refuse6 s.now).number ≡ 0 }
-    ensures { result ≡ refuse8 (count_of s.now) j }
+// Refusal 6, or none.
+fn check(s: &[u8]) -> Result<(), Refused>
+    ensures { told result ≡ refuse6 s.now }
 {
-    let h = head_of(s);
-    arguments::check_number(h.count, j)
+    let begins = stamp::begins_as(s, &LETTERS, NEWEST, CODE_COUNT_SEAL);
+    unless(begins && fits(s), Reason::TagFile, 0)
 }
 
-// Refusal 7, or none, of room for a file as long as this one.
-pub fn check_room(s: &[u8], room: usize) -> Refusal
-    requires { (refuse6 s.now).number ≡ 0 }
-    ensures { result ≡ refuse7 (file_size (head_of s.now)) room }
-{
-    arguments::check_room(s.len(), room)
+// A tag file that 6 does not refuse.
+#[derive(Clone, Copy)]
+pub struct Formed<'a> {
+    pub bytes: &'a [u8],
+    ghost formed: { (refuse6 bytes.now).number ≡ 0 },
 }
 
-// Refusal 20, or none: whether its MAC is right.
-pub fn check_mac(t: &Tables, key: [u8; 16], s: &[u8]) -> Refusal
-    requires engine_tables { EngineTables t.now }
-    requires s_value { (refuse6 s.now).number ≡ 0 }
-    ensures { result ≡ refuse20 key s.now }
-{
-    let end = s.len() - 16;
-    let mac = cmac::cmac_with(t, key, &s[0..end]);
-    unless(block::equal(block::block_at(s, end), mac), 20, 0)
+impl<'a> Formed<'a> {
+    // The file, or refusal 6.
+    pub fn new(s: &'a [u8]) -> Result<Formed<'a>, Refused>
+        ensures refused { told result ≡ refuse6 s.now }
+        ensures same { IfOk result (λ f. f.bytes.now ≡ s.now) }
+    {
+        check(s)?;
+        Ok(Formed { bytes: s })
+    }
+
+    // What it says before its tags.
+    pub fn head(&self) -> Head
+        ensures { (result ≡ head_of self.now.bytes.now) × (result.count < 65536) }
+    {
+        head_of(self.bytes)
+    }
+
+    // Refusal 8, or none, of an item number.
+    pub fn check_number(&self, j: u64) -> Result<(), Refused>
+        ensures { told result ≡ refuse8 (count_of self.now.bytes.now) j }
+    {
+        arguments::check_number(self.head().count, j)
+    }
+
+    // Refusal 7, or none, of room for a file as long as this one.
+    pub fn check_room(&self, room: usize) -> Result<(), Refused>
+        ensures { told result ≡ refuse7 (file_size (head_of self.now.bytes.now)) room }
+    {
+        arguments::check_room(self.bytes.len(), room)
+    }
+
+    // Refusal 20, or none: whether its MAC is right.
+    pub fn check_mac(&self, t: &Tables, key: [u8; 16]) -> Result<(), Refused>
+        ensures { told result ≡ refuse20 key self.now.bytes.now }
+    {
+        let s = self.bytes;
+        let end = s.len() - 16;
+        let mac = cmac::cmac_with(t, key, &s[0..end]);
+        unless(block::equal(block::block_at(s, end), mac), Reason::Mac, 0)
+    }
 }
 
 // Writes size code and count at a place of out; all else stays.
@@ -184,7 +186,6 @@ pub fn put_header(out: &mut [u8], head: Head)
 
 // Seals the first n bytes of out: writes their MAC behind them, through the part that starts there; what is behind it stays.
 pub fn seal(t: &Tables, key: [u8; 16], out: &mut [u8], n: usize)
-    requires engine_tables { EngineTables t.now }
     requires n_in_bounds { n + 16 ≤ length out.old }
     ensures { out.new ≡ take n out.old ++ (cmac key (take n out.old) ++ drop (n + 16) out.old) }
 {

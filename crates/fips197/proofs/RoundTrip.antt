@@ -1,6 +1,6 @@
 -- The cipher and the inverse cipher undo each other with any schedule of blocks: an induction over the rounds, step by step.
-use Rattle.std.specs.Prelude.{◌≡◌, ◌+◌, ◌-◌, ◌<◌}
-use Rattle.fips197.proofs.Kit.{sym, ap, ap₂, ◌∙◌, List, map, ℕ, zero, suc, not-suc-le-zero, arith, add-one, length}
+use Rattle.std.specs.Prelude.{◌≡◌, ◌+◌, ◌-◌, ◌≤◌, ◌<◌}
+use Rattle.fips197.proofs.Kit.{ap, ap₂, ◌∙◌, List, map, ℕ, zero, suc, not-suc-le-zero, arith, length}
 use Rattle.fips197.specs.Block.{Block, ◌⊕◌}
 use Rattle.fips197.specs.Aes.{inv_sbox, sub_bytes, inv_sub_bytes, shift_rows, inv_shift_rows, mix_columns, inv_mix_columns, round_key, rounds, cipher, inv_rounds, inv_cipher}
 use Rattle.fips197.proofs.Xor.{⊕-length, ⊕-block, block_cancel}
@@ -98,13 +98,15 @@ inv_cipher-length w s h = inv_rounds-length w 9 _ h
 
 -- ---- as the code turns
 
-pub rounds_more : (w : List ℕ) (n : ℕ) (s t : List ℕ) → t ≡ rounds w n s
-    → mix_columns (shift_rows (sub_bytes t)) ⊕ round_key w (n + 1) ≡ rounds w (n + 1) s
+pub rounds_more : (w : List ℕ) (n : ℕ) (s t : List ℕ) → 1 ≤ n → t ≡ rounds w (n - 1) s
+    → mix_columns (shift_rows (sub_bytes t)) ⊕ round_key w n ≡ rounds w (n + 1 - 1) s
 unfolding rounds
-rounds_more w n s t p =
-    ap (λ (u : List ℕ). mix_columns (shift_rows (sub_bytes u)) ⊕ round_key w (n + 1)) p
-    ∙ ap (λ (m : ℕ). mix_columns (shift_rows (sub_bytes (rounds w n s))) ⊕ round_key w m) (add-one n)
-    ∙ ap (λ (m : ℕ). rounds w m s) (sym (add-one n))
+rounds_more w zero s t h p = absurd (not-suc-le-zero h)
+rounds_more w (suc n) s t h p =
+    let a : suc n - 1 ≡ n = omega arith in
+    let b : suc n ≡ suc n + 1 - 1 = omega arith in
+    ap (λ (u : List ℕ). mix_columns (shift_rows (sub_bytes u)) ⊕ round_key w (suc n)) (p ∙ ap (λ (m : ℕ). rounds w m s) a)
+    ∙ ap (λ (m : ℕ). rounds w m s) b
 
 pub inv_rounds-less : (w : List ℕ) (n : ℕ) (s t : List ℕ) → 0 < n → t ≡ inv_mix_columns (inv_sub_bytes (inv_shift_rows s) ⊕ round_key w n)
     → inv_rounds w (n - 1) t ≡ inv_rounds w n s

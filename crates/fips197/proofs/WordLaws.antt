@@ -1,12 +1,13 @@
 -- Words of four bytes: XOR, doubling in the field, turning and mixing go byte by byte; four words are a state.
 use Rattle.std.specs.Prelude.{◌≡◌, ◌∷◌, ◌++◌, ◌+◌, ◌*◌, ◌/◌, ◌%◌, ◌^◌, ◌≤◌, ◌<◌}
-use Rattle.fips197.proofs.Kit.{sym, ap, ap₂, ◌∙◌, subst, List, [], map, div-div-eq-div-mul, div-lt_iff_lt-mul, mod-add-div', mod-eq_of_lt, pow_pos, ℕ, arith, length, get_or, bit_xor, bit_and, xor_shr, xor_mod, and_shr, and_mod, and_mask, and_high, and_le_r, lit<}
+use Rattle.fips197.proofs.Kit.{sym, ap, ap₂, ◌∙◌, subst, List, [], map, div-div-eq-div-mul, div-lt_iff_lt-mul, mod-add-div', mod-eq_of_lt, pow_pos, ℕ, arith, get_or, bit_xor, bit_and, bit_or, w32, xor_shr, xor_mod, and_shr, and_mod, and_mask, and_high, and_le_r, lit<}
+use Rattle.std.specs.Int.{rotate_right}
+use Rattle.std.specs.Int.Bits.{or_shifted_r}
 use Rattle.fips197.specs.Block.{◌⊕◌}
 use Rattle.fips197.specs.Field.{xtimes}
-use Rattle.fips197.specs.Aes.{rot_word, mixed, inv_mixed, shift_rows, inv_shift_rows, columnwise, word, round_key}
+use Rattle.fips197.specs.Aes.{rot_word, mixed, inv_mixed, shift_rows, inv_shift_rows, columnwise}
 use Rattle.fips197.specs.Words.{bytes_of, state_of, column}
 use Rattle.fips197.proofs.Mixing.{mixed-words, inv_mixed-words}
-use Rattle.fips197.proofs.Schedules.{word_is, round_key-words}
 use Rattle.fips197.proofs.Xor.{mod2_lt}
 
 -- the word of four bytes
@@ -71,22 +72,28 @@ by_bytes P h x l =
 -- ---- turning
 
 module _ (a b c d : ℕ) (ha : a < 256) (hb : b < 256) (hc : c < 256) (hd : d < 256) where
-  turned1 : packed a b c d / 256 + packed a b c d % 256 * 16777216 ≡ packed b c d a
-  turned1 = omega arith
+  turned1 : rotate_right w32 (packed a b c d) 8 ≡ packed b c d a
+  turned1 =
+      let p = packed a b c d in
+      let e : p * 2 ^ 24 % 2 ^ 32 ≡ p % 256 * 2 ^ 24 = omega arith in
+      ap (bit_or (p / 256)) e ∙ or_shifted_r (p % 256) 24 (p / 256) (omega arith) ∙ omega arith
 
-  turned2 : packed a b c d / 65536 + packed a b c d % 65536 * 65536 ≡ packed c d a b
-  turned2 = omega arith
+  turned2 : rotate_right w32 (packed a b c d) 16 ≡ packed c d a b
+  turned2 =
+      let p = packed a b c d in
+      let e : p * 2 ^ 16 % 2 ^ 32 ≡ p % 65536 * 2 ^ 16 = omega arith in
+      ap (bit_or (p / 65536)) e ∙ or_shifted_r (p % 65536) 16 (p / 65536) (omega arith) ∙ omega arith
 
-pub bytes_turn1 : (x : ℕ) → x < 4294967296 → bytes_of (x / 256 + x % 256 * 16777216) ≡ rot_word (bytes_of x)
+pub bytes_turn1 : (x : ℕ) → x < 4294967296 → bytes_of (rotate_right w32 x 8) ≡ rot_word (bytes_of x)
 unfolding rot_word
 bytes_turn1 =
-    by_bytes (λ x l. bytes_of (x / 256 + x % 256 * 16777216) ≡ rot_word l)
+    by_bytes (λ x l. bytes_of (rotate_right w32 x 8) ≡ rot_word l)
     (λ a b c d ha hb hc hd. ap bytes_of (turned1 a b c d ha hb hc hd) ∙ bytes_packed b c d a hb hc hd ha)
 
-pub bytes_turn2 : (x : ℕ) → x < 4294967296 → bytes_of (x / 65536 + x % 65536 * 65536) ≡ rot_word (rot_word (bytes_of x))
+pub bytes_turn2 : (x : ℕ) → x < 4294967296 → bytes_of (rotate_right w32 x 16) ≡ rot_word (rot_word (bytes_of x))
 unfolding rot_word
 bytes_turn2 =
-    by_bytes (λ x l. bytes_of (x / 65536 + x % 65536 * 65536) ≡ rot_word (rot_word l))
+    by_bytes (λ x l. bytes_of (rotate_right w32 x 16) ≡ rot_word (rot_word l))
     (λ a b c d ha hb hc hd. ap bytes_of (turned2 a b c d ha hb hc hd) ∙ bytes_packed c d a b hc hd ha hb)
 
 -- ---- doubling in the field
@@ -216,19 +223,3 @@ mixed_columns f a b c d p q r s ep eq er es = λ i. ep i ++ eq i ++ er i ++ es i
 pub added_columns : (a b c d p q r s : ℕ) → state_of (bit_xor a p) (bit_xor b q) (bit_xor c r) (bit_xor d s) ≡ state_of a b c d ⊕ state_of p q r s
 unfolding state_of bytes_of ◌⊕◌
 added_columns a b c d p q r s = λ i. bytes-xor a p i ++ bytes-xor b q i ++ bytes-xor c r i ++ bytes-xor d s i
-
--- AddRoundKey
-pub keyed_columns : (w : List ℕ) (n a b c d p q r s : ℕ) → length w ≡ 176 → n < 11
-    → bytes_of p ≡ word w (4 * n) → bytes_of q ≡ word w (4 * n + 1) → bytes_of r ≡ word w (4 * n + 2) → bytes_of s ≡ word w (4 * n + 3)
-    → state_of (bit_xor a p) (bit_xor b q) (bit_xor c r) (bit_xor d s) ≡ state_of a b c d ⊕ round_key w n
-unfolding state_of bytes_of ◌⊕◌
-keyed_columns w n a b c d p q r s h l ep eq er es =
-    let w0 = word_is w (4 * n) (omega arith) in
-    let w1 = word_is w (4 * n + 1) (omega arith) in
-    let w2 = word_is w (4 * n + 2) (omega arith) in
-    let w3 = word_is w (4 * n + 3) (omega arith) in
-    (λ i. one a p (ep ∙ w0) i ++ one b q (eq ∙ w1) i ++ one c r (er ∙ w2) i ++ one d s (es ∙ w3) i)
-    ∙ ap (λ (k : List ℕ). state_of a b c d ⊕ k) (sym (round_key-words w n ∙ (λ i. w0 i ++ w1 i ++ w2 i ++ w3 i)))
-  where
-    one : (x k : ℕ) {v : List ℕ} → bytes_of k ≡ v → bytes_of (bit_xor x k) ≡ bytes_of x ⊕ v
-    one x k e = bytes-xor x k ∙ ap (λ (l : List ℕ). bytes_of x ⊕ l) e

@@ -3,7 +3,7 @@
 // for a caller's many blocks.
 ghost use Rattle.std.specs.Prelude.{◌≡◌, [], ◌∷◌, map, ℕ, ◌+◌, ◌/◌, ◌%◌, ◌≤◌, ◌<◌, length, take, drop};
 ghost use Rattle.fips197.specs.Block.{◌⊕◌, Tabulates};
-ghost use Rattle.fips197.specs.Aes.{shift_rows, inv_shift_rows, word, round_key};
+ghost use Rattle.fips197.specs.Aes.{shift_rows, inv_shift_rows, round_key};
 ghost use Rattle.fips197.specs.Words.{bytes_of, state_of};
 
 use crate::sbox::lookup;
@@ -50,30 +50,44 @@ pub fn add(x: Columns, y: Columns) -> Columns
     }
 }
 
-// The bytes of a word.
-fn split(x: u32) -> [u8; 4]
-    ensures { result ≡ bytes_of x }
-{
-    [
-        (x % 256) as u8,
-        (x / 256 % 256) as u8,
-        (x / 65536 % 256) as u8,
-        (x / 16777216 % 256) as u8,
-    ]
-}
-
 // The block of a state.
 pub fn store(s: Columns) -> [u8; 16]
     ensures { result ≡ state_of s.a s.b s.c s.d }
 {
-    let a = split(s.a);
-    let b = split(s.b);
-    let c = split(s.c);
-    let d = split(s.d);
+    let a = words::to_bytes(s.a);
+    let b = words::to_bytes(s.b);
+    let c = words::to_bytes(s.c);
+    let d = words::to_bytes(s.d);
     [
         a[0], a[1], a[2], a[3], b[0], b[1], b[2], b[3], c[0], c[1], c[2], c[3], d[0], d[1], d[2],
         d[3],
     ]
+}
+
+// The state whose columns are f of its columns.
+pub fn each<F: Fn(u32) -> u32>(s: Columns, f: F) -> Columns
+    requires { F.IsAlwaysCallable f }
+    ensures { (F.post f s.a result.a × F.post f s.b result.b) × (F.post f s.c result.c × F.post f s.d result.d) }
+{
+    Columns {
+        a: f(s.a),
+        b: f(s.b),
+        c: f(s.c),
+        d: f(s.d),
+    }
+}
+
+// The state whose columns are f of all four, from the column's own on, going round the state.
+pub fn around<F: Fn(u32, u32, u32, u32) -> u32>(s: Columns, f: F) -> Columns
+    requires { F.IsAlwaysCallable f }
+    ensures { (F.post f s.a s.b s.c s.d result.a × F.post f s.b s.c s.d s.a result.b) × (F.post f s.c s.d s.a s.b result.c × F.post f s.d s.a s.b s.c result.d) }
+{
+    Columns {
+        a: f(s.a, s.b, s.c, s.d),
+        b: f(s.b, s.c, s.d, s.a),
+        c: f(s.c, s.d, s.a, s.b),
+        d: f(s.d, s.a, s.b, s.c),
+    }
 }
 
 // A byte of each of four columns, the first of one, the second of the next and so on, through a table.
@@ -92,52 +106,20 @@ pub fn gather(t: &[u8; 256], a: u32, b: u32, c: u32, d: u32) -> u32
 pub fn shift(t: &[u8; 256], s: Columns) -> Columns
     ensures { (f : ℕ → ℕ) → Tabulates t.now f → state_of result.a result.b result.c result.d ≡ shift_rows (map f (state_of s.a s.b s.c s.d)) }
 {
-    let a = s.a;
-    let b = s.b;
-    let c = s.c;
-    let d = s.d;
-    Columns {
-        a: gather(t, a, b, c, d),
-        b: gather(t, b, c, d, a),
-        c: gather(t, c, d, a, b),
-        d: gather(t, d, a, b, c),
-    }
+    around(s, |a, b, c, d| gather(t, a, b, c, d))
 }
 
 // InvShiftRows and InvSubBytes.
 pub fn inv_shift(t: &[u8; 256], s: Columns) -> Columns
     ensures { (f : ℕ → ℕ) → Tabulates t.now f → state_of result.a result.b result.c result.d ≡ map f (inv_shift_rows (state_of s.a s.b s.c s.d)) }
 {
-    let a = s.a;
-    let b = s.b;
-    let c = s.c;
-    let d = s.d;
-    Columns {
-        a: gather(t, a, d, c, b),
-        b: gather(t, b, a, d, c),
-        c: gather(t, c, b, a, d),
-        d: gather(t, d, c, b, a),
-    }
+    around(s, |a, b, c, d| gather(t, a, d, c, b))
 }
 
-// Word i of a schedule.
-pub fn key_word(w: &[u8; 176], i: usize) -> u32
-    requires { (i < 44) × (length w.now ≡ 176) }
-    ensures { bytes_of result ≡ word w.now i }
-{
-    let at = 4 * i;
-    words::from_bytes(w[at], w[at + 1], w[at + 2], w[at + 3])
-}
-
+// The XOR with round key n of a schedule.
 pub fn add_round_key(s: Columns, w: &[u8; 176], n: usize) -> Columns
-    requires { (n < 11) × (length w.now ≡ 176) }
+    requires { n < 11 }
     ensures { state_of result.a result.b result.c result.d ≡ state_of s.a s.b s.c s.d ⊕ round_key w.now n }
 {
-    let i = 4 * n;
-    Columns {
-        a: s.a ^ key_word(w, i),
-        b: s.b ^ key_word(w, i + 1),
-        c: s.c ^ key_word(w, i + 2),
-        d: s.d ^ key_word(w, i + 3),
-    }
+    add(s, load_at(w, 16 * n))
 }

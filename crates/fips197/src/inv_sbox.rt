@@ -21,9 +21,14 @@ const INV_SBOX: [u8; 256] = *b"\
     \xa0\xe0\x3b\x4d\xae\x2a\xf5\xb0\xc8\xeb\xbb\x3c\x83\x53\x99\x61\
     \x17\x2b\x04\x7e\xba\x77\xd6\x26\xe1\x69\x14\x63\x55\x21\x0c\x7d";
 
-// The table of the inverse S-box. A caller takes it once and passes it down by reference.
-pub fn table() -> [u8; 256]
-    ensures { Tabulates result inv_sbox }
-{
-    INV_SBOX
+// The inverse S-box as a table. A type beside `Sbox`, since one type for both would need a marker type for each, and say no more.
+#[derive(Drop)]
+pub struct InvSbox {
+    pub bytes: [u8; 256],
+    ghost tabulates: { Tabulates bytes inv_sbox },
+}
+
+// The table. A caller takes it once and passes it down by reference.
+pub fn table() -> InvSbox {
+    InvSbox { bytes: INV_SBOX }
 }

@@ -22,11 +22,16 @@ const SBOX: [u8; 256] = *b"\
     \xe1\xf8\x98\x11\x69\xd9\x8e\x94\x9b\x1e\x87\xe9\xce\x55\x28\xdf\
     \x8c\xa1\x89\x0d\xbf\xe6\x42\x68\x41\x99\x2d\x0f\xb0\x54\xbb\x16";
 
-// The table of the S-box. A caller takes it once and passes it down by reference.
-pub fn table() -> [u8; 256]
-    ensures { Tabulates result sbox }
-{
-    SBOX
+// The S-box as a table.
+#[derive(Drop)]
+pub struct Sbox {
+    pub bytes: [u8; 256],
+    ghost tabulates: { Tabulates bytes sbox },
+}
+
+// The table. A caller takes it once and passes it down by reference.
+pub fn table() -> Sbox {
+    Sbox { bytes: SBOX }
 }
 
 // A byte through a table of f: f of the byte.

@@ -8,7 +8,14 @@ ghost use Rattle.fips197.specs.Words.{bytes_of, column};
 pub fn from_bytes(a: u8, b: u8, c: u8, d: u8) -> u32
     ensures { bytes_of result ≡ a ∷ b ∷ c ∷ d ∷ [] }
 {
-    (a as u32) + (b as u32) * 256 + (c as u32) * 65536 + (d as u32) * 16777216
+    u32::from_le_bytes([a, b, c, d])
+}
+
+// The bytes of a word.
+pub fn to_bytes(x: u32) -> [u8; 4]
+    ensures { result ≡ bytes_of x }
+{
+    x.to_le_bytes()
 }
 
 // The word of the four bytes at a place of s.
@@ -30,14 +37,14 @@ fn xtime(x: u32) -> u32
 pub fn turn(x: u32) -> u32
     ensures { bytes_of result ≡ rot_word (bytes_of x) }
 {
-    x / 256 + x % 256 * 16777216
+    x.rotate_right(8)
 }
 
 // Each byte is the second below it, going round.
 pub fn turn_twice(x: u32) -> u32
     ensures { bytes_of result ≡ rot_word (rot_word (bytes_of x)) }
 {
-    x / 65536 + x % 65536 * 65536
+    x.rotate_right(16)
 }
 
 // A column mixed: 2 and 3 times a byte and the one below it, and the two others.

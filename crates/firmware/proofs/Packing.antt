@@ -8,14 +8,17 @@ use Rattle.incidence.specs.declared.Answer.TheVariants.{Intact, Named, Beyond}
 use Rattle.incidence.proofs.Counting.{count_most}
 use Rattle.sizes.specs.Sizes.{family_of}
 use Rattle.sizes.proofs.Laws.{items_few, rows_few}
-use Rattle.files.specs.declared.Refusal.{Refusal}
+use Rattle.std.specs.Prelude.{Result, Ok, Err, IfOk, OnOk}
+use Rattle.files.specs.declared.refusals.Refused.{Refused}
+use Rattle.files.specs.Refusals.{Refusal, told}
 use Rattle.files.specs.Message.{item_count}
 use Rattle.files.specs.TagFile.{code_of}
 use Rattle.tagging.specs.Tagging.{keys_in}
-use Rattle.files.proofs.Passing.{given, kept}
+use Rattle.files.proofs.Passing.{given, kept, number-low}
 use Rattle.checks.specs.Refused.{report_refusal}
 use Rattle.scheme.specs.Calls.{agrees, report_answer, report_named, report_rows}
 use Rattle.scheme.specs.Claim.{Claim, RowClaim, RowsDrift, DriftClaim}
+use Rattle.decoding.specs.declared.Decoded.{Decoded}
 use Rattle.checks.specs.Passed.{Reportable}
 use Rattle.checks.proofs.Checking.{reportable, file-count}
 use Rattle.firmware.specs.Packed.{packed, packed_yes, packed_report, report_packed, number_in, place_in, yes_in, answer_in, named_in, rows_in, ReadsReport, DriftRead}
@@ -142,6 +145,31 @@ module _ (keys s f before : List ℕ) (r : Refusal) (a : Answer) (names rows w :
 
   pub rows-packed : (r.number ≡ 0 → RowClaim keys s f rows) → RowClaim keys s f (rows_in w)
   rows-packed D = subst (RowClaim keys s f) rows_as_read (D (z e))
+
+-- what holds of a report's result holds of the numbers that are packed, where it does not refuse
+module _ (r : Result Decoded Refused) (z : (told r).number ≡ 0) where
+  pub ok_claim : (keys s f marks : List ℕ) (a : Answer) (names : ℕ) → IfOk r (λ x. x.answer ≡ a) → IfOk r (λ x. x.named ≡ names)
+      → IfOk r (λ x. Claim keys s f marks x.named x.answer) → Claim keys s f marks names a
+  ok_claim keys s f marks a names ea en D = go r z ea en D
+    where
+      go : (r : Result Decoded Refused) → (told r).number ≡ 0 → IfOk r (λ x. x.answer ≡ a) → IfOk r (λ x. x.named ≡ names)
+          → IfOk r (λ x. Claim keys s f marks x.named x.answer) → Claim keys s f marks names a
+      go (Ok x) z ea en D = subst (λ (b : Answer). Claim keys s f marks names b) ea (subst (λ (n : ℕ). Claim keys s f marks n x.answer) en D)
+      go (Err d) z ea en D = let l = number-low d.reason in absurd (omega arith)
+
+  pub ok_rows : (P : ℕ → Type 0) (rows : ℕ) → IfOk r (λ x. x.rows ≡ rows) → IfOk r (λ x. P x.rows) → P rows
+  ok_rows P rows em D = go r z em D
+    where
+      go : (r : Result Decoded Refused) → (told r).number ≡ 0 → IfOk r (λ x. x.rows ≡ rows) → IfOk r (λ x. P x.rows) → P rows
+      go (Ok x) z em D = subst P em D
+      go (Err d) z em D = let l = number-low d.reason in absurd (omega arith)
+
+  pub ok_marks : (N : Type 0) → OnOk r N → N
+  ok_marks N D = go r z D
+    where
+      go : (r : Result Decoded Refused) → (told r).number ≡ 0 → OnOk r N → N
+      go (Ok x) z D = D
+      go (Err d) z D = let l = number-low d.reason in absurd (omega arith)
 
 -- the rows of any other report, read from its number
 rows_read : (keys s f marks : List ℕ) → number_in (report_packed keys s f marks) ≡ 0

@@ -8,7 +8,7 @@ use Rattle.blocks.proofs.Xor.{take-bytes, drop-bytes}
 use Rattle.incidence.specs.Count.{inside}
 use Rattle.sizes.specs.Sizes.{known, family_of}
 use Rattle.stamp.specs.Front.{front_size, version_of, stamp_of, begins_as}
-use Rattle.files.specs.declared.Refusal.{Refusal}
+use Rattle.files.specs.Refusals.{Refusal}
 use Rattle.files.specs.Refusals.{unless, passes, first}
 use Rattle.files.specs.Message.{number16, message_letters, newest_message, items_at, item_count, behind, item_fits, refuse_items, refuse3, refuse5, refuse8}
 use Rattle.files.specs.TagFile.{tag_letters, newest_tag_file, tags_at, file_size, code_of, count_of, head_of, body_of, mac_of, count_fits, refuse6, refuse20}

@@ -5,7 +5,7 @@ use Rattle.std.specs.Prelude.{◌≡◌, Bool, List, ℕ, ◌+◌, ◌*◌, ◌/
 use Rattle.incidence.specs.Count.{indicator}
 use Rattle.incidence.specs.Report.{meaning}
 use Rattle.incidence.specs.declared.Answer.{Answer}
-use Rattle.files.specs.declared.Refusal.{Refusal}
+use Rattle.files.specs.Refusals.{Refusal}
 use Rattle.files.specs.Refusals.{passes}
 use Rattle.checks.specs.Refused.{report_refusal}
 use Rattle.scheme.specs.Calls.{report_answer, report_named, report_rows}

@@ -2,23 +2,36 @@
 // them. Each packs what the call says into one number (specs/Packed.antt), and a refused call writes nothing.
 #![tactic(auto)]
 
-ghost use Rattle.std.specs.Prelude.{◌≡◌, length};
+ghost use Rattle.std.specs.Prelude.{◌≡◌, ℕ, Bool, length, IfOk};
 ghost use Rattle.incidence.specs.Report.{meaning};
 ghost use Rattle.incidence.specs.declared.Answer.{Answer};
+ghost use Rattle.files.specs.Refusals.{refusal, number_of, told};
 ghost use Rattle.checks.specs.Refused.{tag_refusal, verify_refusal, replace_refusal};
 ghost use Rattle.scheme.specs.Calls.{tag_writes, verify_yes, report_writes, report_answer, report_named, report_rows, replace_writes};
 ghost use Rattle.scheme.specs.Claim.{Claim, RowClaim, NameClaim};
 ghost use Rattle.firmware.specs.Packed.{packed, packed_yes, packed_report, report_packed, number_in, answer_in, named_in, rows_in, ReadsReport, DriftRead};
 
-use files::Refusal;
+use decoding::Decoded;
+use files::Refused;
 use incidence::Answer;
-use scheme::{Reported, Verified};
 
 // A refusal as one number.
-fn pack(r: Refusal) -> u64
-    ensures { result ≡ packed r }
+#[tactic(auto, unfolding(crate::specs::Packed::packed))]
+fn pack(refused: Refused) -> u64
+    ensures { result ≡ packed (refusal (number_of refused.reason) refused.place) }
 {
-    r.number as u64 + 256 * (r.place as u64 % 16777216)
+    u64::from(refused.reason.number()) + 256 * (refused.place as u64 % 16777216)
+}
+
+// What Tag and Replace say as one number.
+#[tactic(auto, unfolding(crate::specs::Packed::packed))]
+fn pack_done(done: Result<(), Refused>) -> u64
+    ensures { result ≡ packed (told done) }
+{
+    match done {
+        Ok(()) => 0,
+        Err(refused) => pack(refused),
+    }
 }
 
 // An answer as its number.
@@ -33,30 +46,29 @@ fn ordinal(said: Answer) -> u64
 }
 
 // What Verify says as one number.
-fn pack_verify(r: Verified) -> u64
-    ensures { result ≡ packed_yes r.refused r.yes }
+fn pack_verify(said: Result<bool, Refused>) -> u64
+    ensures { (yes : Bool) → IfOk said (λ x. x ≡ yes) → result ≡ packed_yes (told said) yes }
 {
-    let refused = r.refused;
-    if refused.number != 0 {
-        return pack(refused);
+    match said {
+        Ok(true) => 256,
+        Ok(false) => 0,
+        Err(refused) => pack(refused),
     }
-    if r.yes {
-        return 256;
-    }
-    0
 }
 
 // What Report says as one number.
-fn pack_report(r: Reported) -> u64
-    ensures packed { result ≡ packed_report r.refused r.answer r.named r.rows }
-    ensures passes { number_in result ≡ 0 → r.refused.number ≡ 0 }
+fn pack_report(said: Result<Decoded, Refused>) -> u64
+    ensures packed { (answer : Answer) (named rows : ℕ) → IfOk said (λ x. x.answer ≡ answer) → IfOk said (λ x. x.named ≡ named) → IfOk said (λ x. x.rows ≡ rows) → result ≡ packed_report (told said) answer named rows }
+    ensures passes { number_in result ≡ 0 → (told said).number ≡ 0 }
 {
-    let refused = r.refused;
-    if refused.number != 0 {
-        return pack(refused);
+    match said {
+        Ok(found) => {
+            256 * ordinal(found.answer)
+                + 65536 * (found.named as u64 % 65536)
+                + 4294967296 * (found.rows as u64 % 65536)
+        }
+        Err(refused) => pack(refused),
     }
-    let said = r.answer;
-    256 * ordinal(said) + 65536 * (r.named as u64 % 65536) + 4294967296 * (r.rows as u64 % 65536)
 }
 
 #[unsafe(no_mangle)]
@@ -64,7 +76,7 @@ pub extern "C" fn gtm_tag(keys: &[u8], size: u64, message: &[u8], tagfile: &mut 
     ensures says { result ≡ packed (tag_refusal keys.now size message.now (length tagfile.old)) }
     ensures written { tagfile.new ≡ tag_writes keys.now size message.now tagfile.old }
 {
-    pack(scheme::tag(keys, size, message, tagfile))
+    pack_done(scheme::tag(keys, size, message, tagfile))
 }
 
 #[unsafe(no_mangle)]
@@ -99,5 +111,5 @@ pub extern "C" fn gtm_replace(
     ensures says { result ≡ packed (replace_refusal keys.now tagfile.now number old.now new.now (length out.old)) }
     ensures written { out.new ≡ replace_writes keys.now tagfile.now number old.now new.now out.old }
 {
-    pack(scheme::replace(keys, tagfile, number, old, new, out))
+    pack_done(scheme::replace(keys, tagfile, number, old, new, out))
 }

@@ -1,27 +1,24 @@
 // Sizes: the size codes and their numbers.
+use crate::failure::Failure;
 use crate::{say, words};
 use command::lines;
+use printing::Text;
 
 // Says the line of a size code; a number that is none has no line.
-fn say_size(rt: &HostRuntime, code: u64) -> bool {
+fn say_size(rt: &HostRuntime, code: u64) -> Result<(), Failure> {
     if !sizes::known(code) {
-        return true;
+        return Ok(());
     }
-    let mut line = [0u8; 133];
-    let e = lines::put_size_line(&mut line, 0, code);
-    say::result(rt, &line[0..e])
+    let mut line = Text::<133>::new();
+    lines::put_size_line(&mut line, code);
+    say::result(rt, line.as_bytes())
 }
 
 // Says the line of every size code. In a tag file it is a byte.
-pub fn list(rt: &HostRuntime) {
-    if !words::exactly(rt, 2) {
-        return;
+pub fn list(rt: &HostRuntime) -> Result<(), Failure> {
+    words::exactly(rt, 2)?;
+    for code in 0..=u8::MAX {
+        say_size(rt, u64::from(code))?;
     }
-    let mut code = 0;
-    while code <= u8::MAX as u64 {
-        if !say_size(rt, code) {
-            return;
-        }
-        code += 1;
-    }
+    Ok(())
 }

@@ -5,6 +5,7 @@
 
 mod cards;
 mod codes;
+mod failure;
 mod heads;
 mod input;
 mod judging;
@@ -13,63 +14,38 @@ mod say;
 mod tagfiles;
 mod words;
 
-// Runs the command that a word names.
-fn run(rt: &HostRuntime, word: &[u8]) {
-    if word == b"pack".as_slice() {
-        cards::pack(rt);
-    } else if word == b"tag".as_slice() {
-        tagfiles::tag(rt);
-    } else if word == b"verify".as_slice() {
-        judging::verify(rt);
-    } else if word == b"report".as_slice() {
-        judging::report(rt);
-    } else {
-        run_change(rt, word);
+use failure::Failure;
+
+fn help(rt: &HostRuntime) -> Result<(), Failure> {
+    words::exactly(rt, 2)?;
+    say::usage(rt);
+    Ok(())
+}
+
+// Runs the command that word 1 names.
+fn run(rt: &HostRuntime) -> Result<(), Failure> {
+    words::at_least(rt, 2)?;
+    let mut room = [0u8; words::MOST];
+    match words::word_or_empty(rt, 1, &mut room) {
+        b"pack" => cards::pack(rt),
+        b"pack-numbered" => cards::pack_numbered(rt),
+        b"tag" => tagfiles::tag(rt),
+        b"verify" => judging::verify(rt),
+        b"report" => judging::report(rt),
+        b"replace" => tagfiles::replace(rt),
+        b"withdraw" => tagfiles::withdraw(rt),
+        b"add" => tagfiles::add(rt),
+        b"fetch" => cards::fetch(rt),
+        b"list" => cards::list(rt),
+        b"sizes" => codes::list(rt),
+        b"help" => help(rt),
+        _ => Err(Failure::UnknownCommand(1)),
     }
 }
 
-// The commands that change a card in a tag file.
-fn run_change(rt: &HostRuntime, word: &[u8]) {
-    if word == b"replace".as_slice() {
-        tagfiles::replace(rt);
-    } else if word == b"withdraw".as_slice() {
-        tagfiles::withdraw(rt);
-    } else if word == b"add".as_slice() {
-        tagfiles::add(rt);
-    } else {
-        run_small(rt, word);
-    }
-}
-
-// The commands that need no keys.
-fn run_small(rt: &HostRuntime, word: &[u8]) {
-    if word == b"pack-numbered".as_slice() {
-        cards::pack_numbered(rt);
-    } else if word == b"fetch".as_slice() {
-        cards::fetch(rt);
-    } else if word == b"list".as_slice() {
-        cards::list(rt);
-    } else if word == b"sizes".as_slice() {
-        codes::list(rt);
-    } else if word == b"help".as_slice() {
-        help(rt);
-    } else {
-        say::error(rt, b"an unknown command: ", word);
-    }
-}
-
-fn help(rt: &HostRuntime) {
-    if words::exactly(rt, 2) {
-        say::usage(rt);
-    }
-}
-
+// The exit status is 0 after a failure too.
 fn main(rt: HostRuntime) {
-    if words::count(&rt) < 2 {
-        say::error(&rt, b"a missing word", b"");
-        return;
+    if let Err(failure) = run(&rt) {
+        say::failure(&rt, failure);
     }
-    let mut word = [0u8; words::MOST];
-    let n = words::word_or_empty(&rt, 1, &mut word);
-    run(&rt, &word[0..n]);
 }

@@ -1,15 +1,25 @@
 // Files written whole or not at all: under a temporary name first, which becomes the file's own once all is written.
 ghost use Rattle.std.specs.Prelude.{◌≤◌, length};
 
-use crate::{say, words};
+use crate::failure::{Failure, Subject};
+use crate::words;
 use command::lines;
+use printing::Text;
 use std::fs::{File, OpenOptions};
 use std::io::Write;
 use std::{fs, io};
 
-// The process number.
-fn process(rt: &HostRuntime) -> u64 {
-    std::process::id(rt.process()) as u64
+// How many bytes a temporary name has at most.
+const TEMPORARY: usize = words::MOST + 25;
+
+// The temporary name of a file: its own, the process number and an ending.
+pub fn temporary(rt: &HostRuntime, name: &[u8]) -> Text<TEMPORARY>
+    requires { length name.now ≤ 4096 }
+{
+    let process = std::process::id(rt.process());
+    let mut text = Text::<TEMPORARY>::new();
+    lines::put_temporary(&mut text, name, u64::from(process));
+    text
 }
 
 // Makes a file of that name, where none is there.
@@ -46,46 +56,18 @@ fn finish(
     rename(rt, temporary, name)
 }
 
-// The same; where that fails, takes the temporary file away and says what fails.
-fn finish_or_remove(
-    rt: &HostRuntime,
-    file: File,
-    bytes: &[u8],
-    temporary: &[u8],
-    name: &[u8],
-) -> bool {
-    match finish(rt, file, bytes, temporary, name) {
-        Ok(()) => true,
-        Err(e) => {
-            say::failed(rt, name, e);
-            let _ = remove(rt, temporary);
-            false
-        }
-    }
-}
-
-fn write_as(rt: &HostRuntime, name: &[u8], bytes: &[u8]) -> bool
-    requires { length name.now ≤ 4096 }
-{
-    let mut space = [0u8; 4121];
-    let n = lines::put_temporary(&mut space, name, process(rt));
-    match create(rt, &space[0..n]) {
-        Ok(file) => finish_or_remove(rt, file, bytes, &space[0..n], name),
-        Err(e) => {
-            say::failed(rt, &space[0..n], e);
-            false
-        }
-    }
-}
-
-// Writes the file that word i names, and answers whether it is there now; says what fails.
-pub fn write(rt: &HostRuntime, i: usize, bytes: &[u8]) -> bool {
-    let mut name = [0u8; words::MOST];
-    match words::word(rt, i, &mut name) {
-        Ok(n) => write_as(rt, &name[0..n], bytes),
-        Err(e) => {
-            say::failed(rt, b"the output file's name", e);
-            false
-        }
-    }
+// Writes the file that word i names; where that fails after the temporary file was made, takes that away.
+pub fn write(rt: &HostRuntime, i: usize, bytes: &[u8]) -> Result<(), Failure> {
+    let mut name_room = [0u8; words::MOST];
+    let name = words::word(rt, i, &mut name_room).map_err(|e| Failure::System(
+        Subject::OutputName,
+        e,
+    ))?;
+    let text = temporary(rt, name);
+    let temporary = text.as_bytes();
+    let file = create(rt, temporary).map_err(|e| Failure::System(Subject::Temporary(i), e))?;
+    finish(rt, file, bytes, temporary, name).map_err(|e| {
+        let _ = remove(rt, temporary);
+        Failure::System(Subject::File(i), e)
+    })
 }

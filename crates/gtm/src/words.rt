@@ -1,9 +1,8 @@
 // The words after the command.
-ghost use Rattle.std.specs.Prelude.{◌≤◌, IfOk};
+ghost use Rattle.std.specs.Prelude.{◌≤◌, length, IfOk};
 
-use crate::say;
-use command::numbers;
-use command::numbers::{Parsed, Parsed32};
+use crate::failure::Failure;
+use std::cmp::Ordering;
 use std::env::{Env, FillError};
 use std::{io, str};
 
@@ -28,67 +27,60 @@ pub fn count(rt: &HostRuntime) -> usize {
     usize::MAX
 }
 
-// Puts word i at the start of the buffer, and gives its length.
-pub fn word(rt: &HostRuntime, i: usize, buf: &mut [u8; MOST]) -> io::Result<usize>
-    ensures { IfOk result (λ n. n ≤ 4096) }
+// Word i, which is put at the start of the room.
+pub fn word<'a>(rt: &HostRuntime, i: usize, room: &'a mut [u8; MOST]) -> io::Result<&'a [u8]>
+    ensures { IfOk result (λ name. length name.now ≤ 4096) }
 {
-    match rt.arg(i, buf) {
-        Ok(n) => Ok(n),
+    match rt.arg(i, room) {
+        Ok(n) => Ok(&room[..n]),
         Err(FillError::TooLong) => Err(io::Error::from_raw_os_error(ENAMETOOLONG)),
         Err(FillError::NotPresent) => Err(io::Error::from_raw_os_error(EINVAL)),
     }
 }
 
 // The same; a word that cannot be had is empty.
-pub fn word_or_empty(rt: &HostRuntime, i: usize, buf: &mut [u8; MOST]) -> usize
-    ensures { result ≤ 4096 }
+pub fn word_or_empty<'a>(rt: &HostRuntime, i: usize, room: &'a mut [u8; MOST]) -> &'a [u8]
+    ensures { length result.now ≤ 4096 }
 {
-    match word(rt, i, buf) {
-        Ok(n) => n,
-        Err(_) => 0,
+    match rt.arg(i, room) {
+        Ok(n) => &room[..n],
+        Err(_) => &[],
     }
 }
 
 // A file's name as std takes it.
 pub fn path(name: &[u8]) -> io::Result<&str> {
-    match str::from_utf8(name) {
-        Ok(text) => Ok(text),
-        Err(_) => Err(io::Error::from_raw_os_error(EILSEQ)),
-    }
+    str::from_utf8(name).map_err(|_| io::Error::from_raw_os_error(EILSEQ))
 }
 
-// Whether there are so many words, the program's name among them; says what is wrong otherwise.
-pub fn exactly(rt: &HostRuntime, n: usize) -> bool {
+// How many words there are, the program's name among them: n or more.
+pub fn at_least(rt: &HostRuntime, n: usize) -> Result<usize, Failure>
+    ensures { IfOk result (λ there. n ≤ there) }
+{
     let there = count(rt);
     if there < n {
-        say::error(rt, b"a missing word", b"");
-        return false;
+        return Err(Failure::MissingWord);
     }
-    if n < there {
-        say::error(rt, b"a surplus word", b"");
-        return false;
-    }
-    true
+    Ok(there)
 }
 
-// The number that word i is; says so where it is none.
-pub fn number(rt: &HostRuntime, i: usize) -> Parsed {
-    let mut text = [0u8; MOST];
-    let n = word_or_empty(rt, i, &mut text);
-    let parsed = numbers::number_in(&text[0..n]);
-    if !parsed.ok {
-        say::error(rt, b"a bad number: ", &text[0..n]);
+// That there are so many words, the program's name among them.
+pub fn exactly(rt: &HostRuntime, n: usize) -> Result<(), Failure> {
+    match count(rt).cmp(&n) {
+        Ordering::Less => Err(Failure::MissingWord),
+        Ordering::Equal => Ok(()),
+        Ordering::Greater => Err(Failure::SurplusWord),
     }
-    parsed
 }
 
-// The same of a number of 32 bits.
-pub fn number32(rt: &HostRuntime, i: usize) -> Parsed32 {
-    let mut text = [0u8; MOST];
-    let n = word_or_empty(rt, i, &mut text);
-    let parsed = numbers::number32_in(&text[0..n]);
-    if !parsed.ok {
-        say::error(rt, b"a bad number: ", &text[0..n]);
-    }
-    parsed
+// The number that word i is, as `parse` reads one.
+pub fn number<T, F: Fn(&[u8]) -> Option<T>>(
+    rt: &HostRuntime,
+    i: usize,
+    parse: F,
+) -> Result<T, Failure>
+    requires { F.IsAlwaysCallable parse }
+{
+    let mut room = [0u8; MOST];
+    parse(word_or_empty(rt, i, &mut room)).ok_or(Failure::BadNumber(i))
 }

@@ -7,7 +7,6 @@ ghost use Rattle.std.specs.Prelude.{◌≡◌, ◌++◌, suc, ◌+◌, ◌*◌, 
 ghost use Rattle.blocks.specs.Block.{◌⊕◌, slot, list_of};
 ghost use Rattle.blocks.specs.Number.{big_endian};
 ghost use Rattle.cipher.specs.Aes.{cipher, inv_cipher};
-ghost use Rattle.cipher.specs.Engine.{EngineTables};
 ghost use Rattle.cipher.specs.Cmac.{mac_with};
 ghost use Rattle.keyed.specs.Keyed.{vacant, item_hash_by, doubled, mask_by, tags_by, sums_by};
 
@@ -47,8 +46,7 @@ pub fn item_hash(
     item: &[u8],
     room: &mut [u8],
 ) -> [u8; 16]
-    requires engine_tables { EngineTables t.now }
-    requires item_len_bound { (length item.now ≤ 1024) × (1040 ≤ length room.old) }
+    requires { (length item.now ≤ 1024) × (1040 ≤ length room.old) }
     ensures hash { result ≡ item_hash_by (mac_with k) stamp j item.now }
     ensures room { length room.new ≡ length room.old }
 {
@@ -60,9 +58,8 @@ pub fn item_hash(
 }
 
 // The mask before the first, with an expanded key: `block::double` gives each next one.
-fn mask_zero(t: &Tables, w: [u8; 176]) -> [u8; 16]
-    requires { EngineTables t.now }
-    ensures { result ≡ mask_by (cipher w) 0 }
+fn mask_zero(t: &Tables, w: &[u8; 176]) -> [u8; 16]
+    ensures { result ≡ mask_by (cipher w.now) 0 }
 {
     aes::encipher_with(t, w, [0u8; 16])
 }
@@ -73,22 +70,19 @@ fn add_masks(m: [u8; 16], n: usize, buf: &mut [u8])
     ensures { buf.new ≡ list_of (λ k. doubled m (suc k) ⊕ slot buf.old k) n ++ drop (16 * n) buf.old }
 {
     let mut mask = m;
-    let mut k = 0;
-    while k < n {
+    for k in 0..n {
         let next = block::double(mask);
         block::xor_at(buf, 16 * k, next);
         mask = next;
-        k += 1;
     }
 }
 
 // Writes the tags of n sums, which stand one after another in sums, to the front of out; what is behind them stays.
 pub fn write_tags(t: &Tables, w: [u8; 176], sums: &[u8], n: usize, out: &mut [u8])
-    requires engine_tables { EngineTables t.now }
-    requires n_in_bounds { (16 * n ≤ length sums.now) × (16 * n ≤ length out.old) }
+    requires { (16 * n ≤ length sums.now) × (16 * n ≤ length out.old) }
     ensures { out.new ≡ tags_by (cipher w) sums.now n ++ drop (16 * n) out.old }
 {
-    let m = mask_zero(t, w);
+    let m = mask_zero(t, &w);
     block::copy_blocks(sums, n, out);
     add_masks(m, n, out);
     aes::encipher_blocks(t, w, n, out);
@@ -96,13 +90,13 @@ pub fn write_tags(t: &Tables, w: [u8; 176], sums: &[u8], n: usize, out: &mut [u8
 }
 
 // Writes the sums that n tags, which stand one after another in tags, were made of to the front of out; what is behind them stays. They
-// are deciphered together, so that the tables for deciphering are taken once.
+// are deciphered together, so that the tables for deciphering are taken once. Not one function with `write_tags` over what stands between
+// the masks: the five calls would become as many, and a closure with clauses of its own at each.
 pub fn write_sums(t: &Tables, w: [u8; 176], tags: &[u8], n: usize, out: &mut [u8])
-    requires engine_tables { EngineTables t.now }
-    requires n_in_bounds { (16 * n ≤ length tags.now) × (16 * n ≤ length out.old) }
+    requires { (16 * n ≤ length tags.now) × (16 * n ≤ length out.old) }
     ensures { out.new ≡ sums_by (cipher w) (inv_cipher w) tags.now n ++ drop (16 * n) out.old }
 {
-    let m = mask_zero(t, w);
+    let m = mask_zero(t, &w);
     block::copy_blocks(tags, n, out);
     add_masks(m, n, out);
     engine::decipher_blocks(w, n, out);

@@ -1,6 +1,6 @@
 -- The file of a list of items: it grows by one item with each append, it is not refused, and it holds the items in order.
 use Rattle.std.specs.Prelude.{◌≡◌, ◌∷◌, ◌++◌, ◌+◌, ◌-◌, ◌^◌, ◌≤◌, ◌<◌}
-use Rattle.fips197.proofs.Kit.{refl, sym, ap, ap₂, ◌∙◌, true, List, [], append_assoc, append-nil, ℕ, zero, suc, add-one, arith, ltb, leb, leb-true, ltb-true, length, get_or, take, drop, length-append, take-append-drop, take_all, take-suc, split_at, take_at, drop_at, drop-drop, le-leb}
+use Rattle.fips197.proofs.Kit.{refl, sym, ap, ap₂, ◌∙◌, true, List, [], append_assoc, append-nil, ℕ, zero, suc, add-one, arith, ltb, leb, leb-true, ltb-true, length, get_or, take, drop, length-append, take-append-drop, take_all, take-suc, split_at, take_at, drop_at, drop-drop, le-leb, eq-eqb}
 use Rattle.blocks.specs.Number.{number, big_endian}
 use Rattle.blocks.proofs.Numbers.{big_endian-length, number-big_endian}
 use Rattle.incidence.specs.Count.{inside}
@@ -10,7 +10,8 @@ use Rattle.stamp.specs.Front.{number_size, front, front_size, stamp_fits, versio
 use Rattle.stamp.proofs.Fronts.{front_length, letters_back, version_back, stamp_back}
 use Rattle.files.specs.Refusals.{none}
 use Rattle.files.specs.Message.{number16, message_letters, newest_message, items_at, item_count, behind, item_start, item_size, item, refuse3, item_fits, refuse_items, refuse5}
-use Rattle.files.proofs.Messages.{header_right, fits_else, items_more, items-whole}
+use Rattle.files.proofs.Passing.{unless_true}
+use Rattle.files.proofs.Messages.{header_right, fits_else, items_more, items_end}
 use Rattle.packing.specs.Packing.{field, fields, message_of, appended}
 
 -- ---- fields
@@ -251,7 +252,8 @@ module _ (st : Stamp) (items : List (List ℕ)) (P : Packable st items) where
       let c = count_of st F items (omega arith) in
       let l : items_at (version_of (message_of st items)) ≤ length (message_of st items) = rw v (omega arith) in (
         header_right (message_of st items) l P.whole (letters_are st items) (ap (inside newest_message) v ∙ version-inside st F),
-        sym (items-whole (message_of st items) (length items) _ (length items) (all_fit (length items) (omega arith)) refl (sym c) (omega arith) (omega arith) places_end),
+        sym (items_end (message_of st items) (length items) _ (length items) (all_fit (length items) (omega arith)) refl (sym c) refl)
+            ∙ unless_true _ 5 (length items + 1) (eq-eqb _ _ places_end),
         c,
         stamp_is st F items,
       )

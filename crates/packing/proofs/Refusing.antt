@@ -5,11 +5,11 @@ use Rattle.incidence.specs.Count.{inside}
 use Rattle.stamp.specs.declared.Stamp.{Stamp}
 use Rattle.stamp.specs.Front.{stamp_fits, version_of}
 use Rattle.stamp.proofs.Fronts.{size-first, size_later}
-use Rattle.files.specs.declared.Refusal.{Refusal}
+use Rattle.files.specs.Refusals.{Refusal}
 use Rattle.files.specs.Refusals.{refusal, unless}
 use Rattle.files.specs.Message.{newest_message, items_at, item_count, refuse3}
 use Rattle.files.specs.Arguments.{refuse7, refuse9}
-use Rattle.files.proofs.Passing.{rest-passes, unless_false, unless-passes, number_of}
+use Rattle.files.proofs.Passing.{rest-passes, unless_false, unless-passes, number_along}
 use Rattle.files.proofs.Messages.{headed}
 use Rattle.packing.specs.Packing.{begin_file_refusal, append_refusal}
 
@@ -54,7 +54,7 @@ module _ (room n long : ℕ) where
 
 pub room_tells : (size room : ℕ) (r : Refusal) → r ≡ refuse7 size room → r.number ≡ 0 → size ≤ room
 unfolding refuse7
-room_tells size room r e h = leb-true size room (unless-passes _ 7 0 (omega arith) (number_of r _ e h))
+room_tells size room r e h = leb-true size room (unless-passes _ 7 0 (omega arith) (number_along r _ e h))
 
 -- ---- what a begin that passes tells
 
@@ -64,7 +64,7 @@ unfolding begin_file_refusal
 begins_tell st room r e h =
     let fits = stamp_fits newest_message st in
     let size = items_at st.version in
-    let a = rest-passes (unless fits 3 0) (refuse7 size room ∷ []) (number_of r _ e h) in
+    let a = rest-passes (unless fits 3 0) (refuse7 size room ∷ []) (number_along r _ e h) in
     let b = rest-passes (refuse7 size room) [] a.1 in
     (unless-passes fits 3 0 (omega arith) a.0, room_tells size room _ refl b.0)
 
@@ -85,7 +85,7 @@ appendable file n item r e h =
     let room = leb size (length file) in
     let whole = leb size 65536 in
     let more = ltb (item_count (take n file)) 65535 in
-    let a = rest-passes (unless long 9 0) (unless room 7 0 ∷ refuse3 (take n file) ∷ unless whole 3 0 ∷ unless more 3 0 ∷ []) (number_of r _ e h) in
+    let a = rest-passes (unless long 9 0) (unless room 7 0 ∷ refuse3 (take n file) ∷ unless whole 3 0 ∷ unless more 3 0 ∷ []) (number_along r _ e h) in
     let b = rest-passes (unless room 7 0) (refuse3 (take n file) ∷ unless whole 3 0 ∷ unless more 3 0 ∷ []) a.1 in
     let d = rest-passes (refuse3 (take n file)) (unless whole 3 0 ∷ unless more 3 0 ∷ []) b.1 in
     let f = rest-passes (unless whole 3 0) (unless more 3 0 ∷ []) d.1 in

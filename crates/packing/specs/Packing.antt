@@ -5,7 +5,7 @@ use Rattle.std.specs.Prelude.{List, [], ◌∷◌, ◌++◌, ℕ, ◌+◌, leb, 
 use Rattle.blocks.specs.Number.{big_endian}
 use Rattle.stamp.specs.declared.Stamp.{Stamp}
 use Rattle.stamp.specs.Front.{front, front_size, stamp_fits, version_of}
-use Rattle.files.specs.declared.Refusal.{Refusal}
+use Rattle.files.specs.Refusals.{Refusal}
 use Rattle.files.specs.Refusals.{unless, passes, first}
 use Rattle.files.specs.Message.{message_letters, newest_message, items_at, item_count, refuse3}
 use Rattle.files.specs.Arguments.{refuse7, refuse9}

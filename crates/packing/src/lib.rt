@@ -3,23 +3,16 @@
 
 ghost use Rattle.std.specs.Prelude.{◌≡◌, [], ◌∷◌, ◌++◌, ◌+◌, ◌≤◌, ◌<◌, leb, ltb, length, take, drop};
 ghost use Rattle.stamp.specs.Front.{stamp_fits, version_of};
-ghost use Rattle.files.specs.Refusals.{unless, first};
+ghost use Rattle.files.specs.Refusals.{told, unless, first};
 ghost use Rattle.files.specs.Message.{newest_message, items_at, item_count, refuse3};
 ghost use Rattle.files.specs.Arguments.{refuse7};
 ghost use Rattle.packing.specs.Packing.{message_of, appended, begin_file_refusal, begin_file_writes, append_refusal, append_writes};
 
 use blocks::block;
-use files::refusals::{first2, first3, unless};
-use files::{Refusal, arguments, message};
+use files::message::Headed;
+use files::refusals::unless;
+use files::{Reason, Refused, arguments, message};
 use stamp::Stamp;
-
-// Writes bytes at a place of out; all else stays.
-fn put(out: &mut [u8], at: usize, text: &[u8])
-    requires { at + length text.now ≤ length out.old }
-    ensures { out.new ≡ take at out.old ++ (text.now ++ drop (at + length text.now) out.old) }
-{
-    out[at..at + text.len()].copy_from_slice(text);
-}
 
 // Whether there is such a version, and whether it has bytes for the number.
 fn stamp_fits(stamp: Stamp) -> bool
@@ -32,10 +25,10 @@ fn stamp_fits(stamp: Stamp) -> bool
 }
 
 // Refusal 3, or none, of a version and a number.
-fn check_stamp(stamp: Stamp) -> Refusal
-    ensures { result ≡ unless (stamp_fits newest_message stamp) 3 0 }
+fn check_stamp(stamp: Stamp) -> Result<(), Refused>
+    ensures { told result ≡ unless (stamp_fits newest_message stamp) 3 0 }
 {
-    unless(stamp_fits(stamp), 3, 0)
+    unless(stamp_fits(stamp), Reason::Message, 0)
 }
 
 // Writes the file without items to the front of out; the bytes behind stay.
@@ -45,77 +38,74 @@ fn put_empty(out: &mut [u8], stamp: Stamp)
 {
     let count = block::to_be16(0);
     stamp::put_front(out, message::LETTERS, stamp);
-    put(out, stamp::front_size(stamp.version), &count);
+    block::put_bytes(out, stamp::front_size(stamp.version), &count);
+}
+
+// Begin's refusal: 3 or 7, or none.
+#[tactic(auto, using(files::proofs::Passing::checked), unfolding(crate::specs::Packing::begin_file_refusal))]
+fn begin_refusal(stamp: Stamp, room: usize) -> Result<(), Refused>
+    ensures { told result ≡ begin_file_refusal stamp room }
+{
+    check_stamp(stamp)?;
+    arguments::check_room(message::items_at(stamp.version), room)
 }
 
 // Writes the message file without items of that version and number, 7 bytes in version 1 and 11 in version 2, to the front of out; the
 // bytes behind stay. Refuses 3 (no such version, or a number other than 0 in version 1), 7, the first that applies; out is then as it was.
-pub fn begin(out: &mut [u8], stamp: Stamp) -> Refusal
-    ensures refused { result ≡ begin_file_refusal stamp (length out.old) }
+pub fn begin(out: &mut [u8], stamp: Stamp) -> Result<(), Refused>
+    ensures refused { told result ≡ begin_file_refusal stamp (length out.old) }
     ensures written { out.new ≡ begin_file_writes stamp out.old }
 {
-    let refused = first2(
-        check_stamp(stamp),
-        arguments::check_room(message::items_at(stamp.version), out.len()),
-    );
-    if refused.number != 0 {
-        return refused;
-    }
+    begin_refusal(stamp, out.len())?;
     put_empty(out, stamp);
-    refused
+    Ok(())
 }
 
 // Refusal 7, or none, of room for a file of n bytes and one item more.
-fn check_room(room: usize, n: usize, item: &[u8]) -> Refusal
-    ensures { result ≡ refuse7 (n + 2 + length item.now) room }
+fn check_room(room: usize, n: usize, item: &[u8]) -> Result<(), Refused>
+    ensures { told result ≡ refuse7 (n + 2 + length item.now) room }
 {
     if room < n {
-        return Refusal {
-            number: 7,
+        return Err(Refused {
+            reason: Reason::Room,
             place: 0,
-        };
+        });
     }
     arguments::check_room(2 + item.len(), room - n)
 }
 
 // Refusal 3, or none, of a file that has so many bytes.
-fn check_size(size: usize) -> Refusal
-    ensures { result ≡ unless (leb size 65536) 3 0 }
+fn check_size(size: usize) -> Result<(), Refused>
+    ensures { told result ≡ unless (leb size 65536) 3 0 }
 {
-    unless(size <= message::MOST, 3, 0)
+    unless(size <= message::MOST, Reason::Message, 0)
 }
 
 // Refusal 3, or none, of a file whose count is to be raised.
-fn check_more(s: &[u8]) -> Refusal
-    requires { (refuse3 s.now).number ≡ 0 }
-    ensures { result ≡ unless (ltb (item_count s.now) 65535) 3 0 }
+fn check_more(message: &Headed) -> Result<(), Refused>
+    ensures { told result ≡ unless (ltb (item_count message.now.bytes.now) 65535) 3 0 }
 {
-    unless(message::item_count(s) < 65535, 3, 0)
+    unless(message.count() < 65535, Reason::Message, 0)
 }
 
 // Refusal 3, or none, of a file that has so many bytes with one item more.
-fn check_file(s: &[u8], size: usize) -> Refusal
-    ensures { result ≡ first (refuse3 s.now ∷ unless (leb size 65536) 3 0 ∷ unless (ltb (item_count s.now) 65535) 3 0 ∷ []) }
+#[tactic(auto, using(files::proofs::Passing::checked))]
+fn check_file(s: &[u8], size: usize) -> Result<(), Refused>
+    ensures { told result ≡ first (refuse3 s.now ∷ unless (leb size 65536) 3 0 ∷ unless (ltb (item_count s.now) 65535) 3 0 ∷ []) }
 {
-    let r = message::check_header(s);
-    if r.number != 0 {
-        return r;
-    }
-    first3(r, check_size(size), check_more(s))
+    let message = Headed::new(s)?;
+    check_size(size)?;
+    check_more(&message)
 }
 
 // Append's refusal: 9, 7 or 3, or none.
-fn append_refusal(file: &[u8], n: usize, item: &[u8]) -> Refusal
-    ensures { result ≡ append_refusal file.now n item.now }
+#[tactic(auto, using(files::proofs::Passing::checked), unfolding(crate::specs::Packing::append_refusal))]
+fn append_refusal(file: &[u8], n: usize, item: &[u8]) -> Result<(), Refused>
+    ensures { told result ≡ append_refusal file.now n item.now }
 {
-    let r = first2(
-        arguments::check_item(item, 0),
-        check_room(file.len(), n, item),
-    );
-    if r.number != 0 {
-        return r;
-    }
-    first2(r, check_file(&file[0..n], n + 2 + item.len()))
+    arguments::check_item(item, 0)?;
+    check_room(file.len(), n, item)?;
+    check_file(&file[..n], n + 2 + item.len())
 }
 
 // Writes the count raised by one, and the item with its length behind the first n bytes, for an append that passes.
@@ -125,22 +115,19 @@ fn put_item(file: &mut [u8], n: usize, item: &[u8])
 {
     let count = block::to_be16((message::item_count(file) + 1) as u16);
     let long = block::to_be16(item.len() as u16);
-    put(file, stamp::front_size(stamp::version_of(file)), &count);
-    put(file, n, &long);
-    put(file, n + 2, item);
+    block::put_bytes(file, stamp::front_size(stamp::version_of(file)), &count);
+    block::put_bytes(file, n, &long);
+    block::put_bytes(file, n + 2, item);
 }
 
 // Appends an item to the message file that the first n bytes of file are: afterwards the first n + 2 + item.len() bytes are that file
 // with the item behind its last, of the same version and number; the bytes behind stay. Refuses 9, 7, 3, the first that applies (3 also
 // where the file would have more than 65,536 bytes, or its count is 65,535); file is then as it was.
-pub fn append(file: &mut [u8], n: usize, item: &[u8]) -> Refusal
-    ensures refused { result ≡ append_refusal file.old n item.now }
+pub fn append(file: &mut [u8], n: usize, item: &[u8]) -> Result<(), Refused>
+    ensures refused { told result ≡ append_refusal file.old n item.now }
     ensures written { file.new ≡ append_writes file.old n item.now }
 {
-    let refused = append_refusal(file, n, item);
-    if refused.number != 0 {
-        return refused;
-    }
+    append_refusal(file, n, item)?;
     put_item(file, n, item);
-    refused
+    Ok(())
 }

@@ -7,10 +7,10 @@ ghost use Rattle.std.specs.Prelude.{◌≡◌, List, ℕ};
 ghost use Rattle.fips197.specs.Block.{Block};
 ghost use Rattle.fips197.specs.Aes.{cipher, inv_cipher, encipher, decipher};
 
+pub use fips197::schedule;
 use fips197::{inv_sbox, sbox};
 
 pub mod rounds;
-pub mod schedule;
 
 // Enciphers a block with an expanded key.
 pub fn encipher_with(w: [u8; 176], block: [u8; 16]) -> [u8; 16]

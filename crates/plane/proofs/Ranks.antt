@@ -1,6 +1,8 @@
 -- Rising lists of numbers: how many members are at most x, and sums over a cycle of m numbers of a test that repeats.
 use Rattle.std.specs.Prelude.{◌≡◌, ◌&&◌, ◌||◌, ◌∷◌, ◌+◌, ◌-◌, ◌≤◌, ◌<◌}
-use Rattle.fips197.proofs.Kit.{refl, sym, ap, ap₂, ◌∙◌, Bool, true, false, List, [], ℕ, zero, suc, add-suc, zero-add, add-one, arith, eqb, ltb, leb, length, get_or, drop, drop-cons, ltb-true, leb-true, leb-false, le-leb, lt-leb, eqb-true, eqb-false, eq-eqb, ne_eqb}
+use Rattle.fips197.proofs.Kit.{refl, sym, ap, ap₂, ◌∙◌, Bool, true, false, List, [], ℕ, zero, suc, add-suc, zero-add, add-one, arith, eqb, ltb, leb, length, get_or, ltb-true, leb-true, leb-false, le-leb, lt-leb, eqb-true, eqb-false, eq-eqb, ne_eqb}
+use Rattle.std.specs.Prelude.{cond, count_by}
+use Rattle.std.proofs.lemmas.List.Recursion.{is_count_by}
 use Rattle.incidence.specs.Count.{indicator, count_up_to}
 use Rattle.incidence.proofs.Booleans.{and_left, and_right, or-first, or_second}
 use Rattle.incidence.proofs.Counting.{count_ext}
@@ -207,16 +209,11 @@ count_down g a (suc n) =
 pub count_back : (g : ℕ → Bool) (n : ℕ) → count_up_to (λ i. g (n + 1 - i)) n ≡ count_up_to g n
 count_back g n = rw (add-one n) (simp zero-add at (count_down g 0 n))
 
--- ---- the members looked at one after the other
+-- ---- a count by std's word
 
-module _ (D : List ℕ) (x k f : ℕ) {v : ℕ} (l : k < length D) (read : v ≡ get_or D k 0) (so_far : f + rank (drop k D) x ≡ rank D x) where
-  next : (t : Bool) → leb v x ≡ t → indicator t + rank (drop (k + 1) D) x ≡ rank (drop k D) x
-  next t e =
-      ap₂ (λ (b : Bool) (n : ℕ). indicator b + rank (drop n D) x) (sym e ∙ ap (λ (y : ℕ). leb y x) read) (add-one k)
-      ∙ sym (ap (λ (L : List ℕ). rank L x) (drop-cons D k 0 l))
-
-  pub rank_more : v ≤ x → f + 1 + rank (drop (k + 1) D) x ≡ rank D x
-  rank_more h = omega (arith, next true (le-leb v x h))
-
-  pub rank_same : x < v → f + rank (drop (k + 1) D) x ≡ rank D x
-  rank_same h = omega (arith, next false (lt-leb v x h))
+pub many_counts : (q : ℕ → Bool) (D : List ℕ) → many q D ≡ count_by q D
+many_counts q = is_count_by (many q) q refl (λ e D. go (q e) (many q D))
+  where
+    go : (t : Bool) (n : ℕ) → indicator t + n ≡ cond t (1 + n) n
+    go true n = refl
+    go false n = zero-add n

@@ -4,3 +4,9 @@
 
 pub mod table;
 pub mod walk;
+
+// The plane of s.
+#[derive(Clone, Copy)]
+pub struct Plane {
+    pub s: usize,
+}

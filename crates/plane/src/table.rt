@@ -54,6 +54,8 @@ fn column(t: [usize; 5], s: usize) -> usize
     }
 }
 
+// A function for each column: each ensures the definition of its own.
+
 // How many items there are (document 01: cards m), and as many rows.
 pub fn items(s: usize) -> usize
     ensures { result ≡ plane_items s }
@@ -82,28 +84,6 @@ pub fn difference_count(s: usize) -> usize
     column(DIFFERENCE_COUNTS, s)
 }
 
-// A number from a table, wider.
-fn from_u8(x: u8) -> u16
-    ensures { result ≡ x }
-{
-    x as u16
-}
-
-// Likewise.
-fn from_u16(x: u16) -> usize
-    ensures { result ≡ x }
-{
-    x as usize
-}
-
-// The number at place k of a list.
-pub fn read(d: &[u16], k: usize) -> usize
-    requires { k < length d.now }
-    ensures { result ≡ get_or d.now k 0 }
-{
-    from_u16(d[k])
-}
-
 // The differences, in the table of all. (A constant array is copied before it is read: who reads many takes it once.)
 pub fn differences(all: &[u16], s: usize) -> &[u16]
     requires { all.now ≡ joined difference_lists }
@@ -119,38 +99,21 @@ pub fn difference(s: usize, k: usize) -> usize
     ensures { result ≡ get_or (differences s) k 0 }
 {
     let all = DIFFERENCES;
-    read(differences(&all, s), k)
+    usize::from(differences(&all, s)[k])
 }
 
 // How many numbers of a list are at most x. Each is looked at: of 17 at most, a search by halving is no faster.
 pub fn rank(d: &[u16], x: usize) -> usize
     ensures { result ≡ many (λ e. leb e x) d.now }
 {
-    let n = d.len();
-    let mut found = 0;
-    let mut k = 0;
-    while k < n {
-        if read(d, k) <= x {
-            found += 1;
-        }
-        k += 1;
-    }
-    found
+    d.iter().filter(|e| usize::from(**e) <= x).count()
 }
 
-// The row pattern, in the table of all.
+// The row pattern, in the table of all. (The two tables have entries of two types; what the two functions share is their last line.)
 pub fn pattern(all: &[u8], s: usize) -> &[u8]
     requires { all.now ≡ joined pattern_lists }
     ensures { result.now ≡ plane_pattern s }
 {
     let at = column(PATTERNS_AT, s);
     &all[at..at + column(PATTERN_COUNTS, s)]
-}
-
-// Its entry at place k, from 0: how many rows back.
-pub fn step(p: &[u8], k: usize) -> u16
-    requires { k < length p.now }
-    ensures { result ≡ get_or p.now k 0 }
-{
-    from_u8(p[k])
 }

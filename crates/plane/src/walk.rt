@@ -7,13 +7,11 @@ ghost use Rattle.plane.specs.Table.{plane_items, plane_tags, plane_pattern};
 ghost use Rattle.plane.specs.Plane.{plane};
 ghost use Rattle.plane.specs.Walk.{Walk, along};
 
-use crate::table;
+use crate::{Plane, table};
+use incidence::{MADE_MOST, MOST, Rows};
 
-// The most tags of an item, and the most items that a row holds: d + 1 where d is 16.
-pub const MOST: usize = 17;
-
-// The most rows that a row is made of: the entries of the longest pattern.
-pub const MADE_MOST: usize = 35;
+// A walk is over the list that `walk` alone holds, so what it knows of list, row and turn is a premise of the four functions that it calls, by
+// one name (specs/Walk.antt), and no type.
 
 // The item at place k, from 0, of those that row i holds. The differences from place `turn` on go round to the first items, then the
 // others follow.
@@ -24,9 +22,9 @@ fn item_at(d: &[u16], s: usize, i: usize, turn: usize, k: usize) -> usize
 {
     let place = turn + k;
     if place < d.len() {
-        return i + table::read(d, place) - table::items(s);
+        return i + usize::from(d[place]) - table::items(s);
     }
-    i + table::read(d, place - d.len())
+    i + usize::from(d[place - d.len()])
 }
 
 // The row at place k, from 0, of those that hold item m + 1 - i. Counted from the other end, they are the items of row i.
@@ -44,18 +42,14 @@ fn write_moved(list: &[u16], up: usize, down: usize, at: usize, out: &mut [usize
     requires by_index { (k : ℕ) → k < length list.now → down ≤ up + get_or list.now k 0 }
     ensures { out.new ≡ take at out.old ++ (map (λ e. up + e - down) list.now ++ drop (at + length list.now) out.old) }
 {
-    let n = list.len();
-    let mut k = 0;
-    while k < n {
-        out[at + k] = up + table::read(list, k) - down;
-        k += 1;
+    for (k, e) in list.iter().enumerate() {
+        out[at + k] = up + usize::from(*e) - down;
     }
 }
 
 // Writes the items of row i to the front of out: the differences from place `turn` on go round to the first items, then the others follow.
-fn write_items(d: &[u16], s: usize, i: usize, turn: usize, out: &mut [usize]) -> usize
+fn write_items(d: &[u16], s: usize, i: usize, turn: usize, out: &mut [usize; MOST]) -> usize
     requires walk { Walk s i d.now turn }
-    requires in_bounds { 17 ≤ length out.old }
     ensures written { out.new ≡ along s i false ++ drop (length (along s i false)) out.old }
     ensures count { result ≡ length (along s i false) }
 {
@@ -66,30 +60,27 @@ fn write_items(d: &[u16], s: usize, i: usize, turn: usize, out: &mut [usize]) ->
 }
 
 // Writes the tags of item m + 1 - i to the front of out. Rows 1 to t have the tags 1 to t, so they are its rows up to t.
-fn write_tags(d: &[u16], s: usize, i: usize, turn: usize, out: &mut [usize]) -> usize
+fn write_tags(d: &[u16], s: usize, i: usize, turn: usize, out: &mut [usize; MOST]) -> usize
     requires walk { Walk s i d.now turn }
-    requires in_bounds { 17 ≤ length out.old }
     ensures written { out.new ≡ along s i true ++ drop (length (along s i true)) out.old }
     ensures count { result ≡ length (along s i true) }
 {
     let n = d.len();
     let t = table::tags(s);
-    let mut k = 0;
-    while k < n {
+    for k in 0..n {
         let row = row_at(d, s, i, turn, k);
         if t < row {
             return k;
         }
         out[k] = row;
-        k += 1;
     }
-    k
+    n
 }
 
-// Walks along the items of row i or, from the other end, the tags of item m + 1 - i.
-fn walk(s: usize, i: usize, back: bool, out: &mut [usize]) -> usize
+// Walks along the items of row i or, from the other end, the tags of item m + 1 - i. (Which of the two is a truth value, as in `along`, which this
+// ensures; the two write different numbers of numbers, so they share no loop.)
+fn walk(s: usize, i: usize, back: bool, out: &mut [usize; MOST]) -> usize
     requires le_i { (1 ≤ i) × (i ≤ plane_items s) }
-    requires in_bounds { 17 ≤ length out.old }
     ensures written { out.new ≡ along s i back ++ drop (length (along s i back)) out.old }
     ensures count { result ≡ length (along s i back) }
 {
@@ -102,66 +93,69 @@ fn walk(s: usize, i: usize, back: bool, out: &mut [usize]) -> usize
     write_items(d, s, i, turn, out)
 }
 
-// Writes the tags whose rows hold item j, rising, to the front of out, and gives how many; what is behind them stays.
-pub fn tags_of(s: usize, j: usize, out: &mut [usize; MOST]) -> usize
-    ensures written { out.new ≡ tags_of (plane s) j ++ drop (length (tags_of (plane s) j)) out.old }
-    ensures count { result ≡ length (tags_of (plane s) j) }
-{
-    let m = table::items(s);
-    if incidence::inside(m, j) {
-        walk(s, m + 1 - j, true, out)
-    } else {
-        0
-    }
-}
-
-// Writes the items that row i holds, rising, to the front of out, and gives how many; what is behind them stays.
-pub fn items_of(s: usize, i: usize, out: &mut [usize; MOST]) -> usize
-    ensures written { out.new ≡ items_of (plane s) i ++ drop (length (items_of (plane s) i)) out.old }
-    ensures count { result ≡ length (items_of (plane s) i) }
-{
-    if incidence::inside(table::items(s), i) {
-        walk(s, i, false, out)
-    } else {
-        0
-    }
-}
-
-// The tag of row i, 0 where it has none.
-pub fn tag_of_row(s: usize, i: usize) -> usize
-    ensures { result ≡ (plane s).tag_of_row i }
-{
-    if i <= table::tags(s) { i } else { 0 }
-}
-
 // Writes the rows that row i is made of, so many rows back as its plane's pattern says, to the front of out.
-fn write_made(p: &[u8], s: usize, i: usize, out: &mut [u16]) -> usize
+// (affine's `copy` is like it but for what is written: they share the `for` alone.)
+fn write_made(p: &[u8], s: usize, i: usize, out: &mut [u16; MADE_MOST]) -> usize
     requires s_bound { (plane_tags s < i) × (i ≤ plane_items s) × (p.now ≡ plane_pattern s) }
-    requires in_bounds { 35 ≤ length out.old }
     ensures written { out.new ≡ (plane s).made i ++ drop (length ((plane s).made i)) out.old }
     ensures count { result ≡ length ((plane s).made i) }
 {
-    let n = p.len();
     let row = i as u16;
-    let mut k = 0;
-    while k < n {
-        out[k] = row - table::step(p, k);
-        k += 1;
+    for (k, back) in p.iter().enumerate() {
+        out[k] = row - u16::from(*back);
     }
-    n
+    p.len()
 }
 
-// Writes the rows that row i is made of to the front of out, and gives how many; none where it has a tag. What is behind them stays.
-pub fn made_of(s: usize, i: usize, out: &mut [u16; MADE_MOST]) -> usize
-    ensures written { out.new ≡ (plane s).made i ++ drop (length ((plane s).made i)) out.old }
-    ensures count { result ≡ length ((plane s).made i) }
-{
-    if i <= table::tags(s) {
-        return 0;
+#[tactic(auto, unfolding(crate::specs::Plane::plane))]
+impl Rows for Plane {
+    ghost family = { λ p. plane p.s };
+
+    fn items(&self) -> usize {
+        table::items(self.s)
     }
-    if table::items(s) < i {
-        return 0;
+
+    fn rows(&self) -> usize {
+        table::items(self.s)
     }
-    let all = table::PATTERNS;
-    write_made(table::pattern(&all, s), s, i, out)
+
+    fn tags(&self) -> usize {
+        table::tags(self.s)
+    }
+
+    fn limit(&self) -> usize {
+        table::limit(self.s)
+    }
+
+    fn tags_of(&self, item: usize, out: &mut [usize; MOST]) -> usize {
+        let m = table::items(self.s);
+        if incidence::inside(m, item) {
+            walk(self.s, m + 1 - item, true, out)
+        } else {
+            0
+        }
+    }
+
+    fn items_of(&self, row: usize, out: &mut [usize; MOST]) -> usize {
+        if incidence::inside(table::items(self.s), row) {
+            walk(self.s, row, false, out)
+        } else {
+            0
+        }
+    }
+
+    fn tag_of_row(&self, row: usize) -> usize {
+        if row <= table::tags(self.s) { row } else { 0 }
+    }
+
+    fn made_of(&self, row: usize, out: &mut [u16; MADE_MOST]) -> usize {
+        if row <= table::tags(self.s) {
+            return 0;
+        }
+        if table::items(self.s) < row {
+            return 0;
+        }
+        let all = table::PATTERNS;
+        write_made(table::pattern(&all, self.s), self.s, row, out)
+    }
 }

@@ -1,6 +1,6 @@
--- The laws of `poly_size`: it is at most the length, and a walk from the front has it of the coefficients passed.
+-- The laws of `poly_size`: it is at most the length, and the place behind the last 1.
 use Rattle.std.specs.Prelude.{◌≡◌, ◌∷◌, ◌+◌, ◌-◌, ◌≤◌, ◌<◌}
-use Rattle.fips197.proofs.Kit.{refl, sym, ap, ◌∙◌, List, [], ℕ, zero, suc, arith, add-one, eqb, length, get_or, take, take_all, eq-eqb, ne_eqb}
+use Rattle.fips197.proofs.Kit.{refl, sym, ap, ◌∙◌, List, [], ℕ, zero, suc, arith, eqb, length, get_or, eq-eqb, ne_eqb}
 use Rattle.incidence.specs.Count.{indicator}
 use Rattle.incidence.proofs.Counting.{bit-most}
 use Rattle.polynomials.specs.Polynomial.{longer, poly_size}
@@ -15,29 +15,23 @@ unfolding poly_size
 size-most [] = omega arith
 size-most (c ∷ p) = omega (arith, longer-most c (poly_size p), size-most p)
 
--- ---- one coefficient further
+-- ---- the last 1
 
-to_one : (p : List ℕ) (i : ℕ) → get_or p i 0 ≡ 1 → poly_size (take (suc i) p) ≡ suc i
+pub size-zero : (p : List ℕ) → ((k : ℕ) → k < length p → get_or p k 0 ≡ 1 → ⊥) → 0 ≡ poly_size p
 unfolding poly_size longer
-to_one [] i e = absurd (omega arith)
-to_one (c ∷ p) zero e = ap indicator (eq-eqb c 1 e)
-to_one (c ∷ p) (suc i) e = ap (longer c) (to_one p i e)
+size-zero [] none = refl
+size-zero (c ∷ p) none =
+    sym (ap indicator (ne_eqb c 1 (none 0 (omega arith)))) ∙ ap (longer c) (size-zero p (λ k l. none (suc k) (omega arith)))
 
-past_other : (p : List ℕ) (i : ℕ) → (get_or p i 0 ≡ 1 → ⊥) → poly_size (take (suc i) p) ≡ poly_size (take i p)
+pub size_last : (p : List ℕ) (i : ℕ) → i < length p → get_or p i 0 ≡ 1 → ((k : ℕ) → i + 1 ≤ k → k < length p → get_or p k 0 ≡ 1 → ⊥) → i + 1 ≡ poly_size p
 unfolding poly_size longer
-past_other [] zero e = refl
-past_other [] (suc i) e = refl
-past_other (c ∷ p) zero e = ap indicator (ne_eqb c 1 e)
-past_other (c ∷ p) (suc i) e = ap (longer c) (past_other p i e)
-
-pub size-one : (p : List ℕ) (i : ℕ) → get_or p i 0 ≡ 1 → i + 1 ≡ poly_size (take (i + 1) p)
-size-one p i e = add-one i ∙ sym (to_one p i e) ∙ ap (λ (k : ℕ). poly_size (take k p)) (sym (add-one i))
-
-pub size_other : (p : List ℕ) (i n : ℕ) → n ≡ poly_size (take i p) → (get_or p i 0 ≡ 1 → ⊥) → n ≡ poly_size (take (i + 1) p)
-size_other p i n h e = h ∙ sym (past_other p i e) ∙ ap (λ (k : ℕ). poly_size (take k p)) (sym (add-one i))
-
-pub size-whole : (p : List ℕ) (i n : ℕ) → n ≡ poly_size (take i p) → length p ≤ i → n ≡ poly_size p
-size-whole p i n h e = h ∙ ap poly_size (take_all i p e)
+size_last [] i l one none = absurd (omega arith)
+size_last (c ∷ p) zero l one none =
+    sym (ap indicator (eq-eqb c 1 one)) ∙ ap (longer c) (size-zero p (λ k h. none (suc k) (omega arith) (omega arith)))
+size_last (c ∷ p) (suc i) l one none =
+    let e : suc i + 1 ≡ suc (suc i) = omega arith in
+    let z : suc i ≡ i + 1 = omega arith in
+    e ∙ ap (longer c) (z ∙ size_last p i (omega arith) one (λ k a h. none (suc k) (omega arith) (omega arith)))
 
 -- what two sizes come to, where both lists have at most 274 coefficients
 pub sizes_few : (p q : List ℕ) (a b : ℕ) → a ≡ poly_size p → b ≡ poly_size q → length q ≡ length p → length p ≤ 274 → a + b ≤ 548

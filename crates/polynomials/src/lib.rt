@@ -1,23 +1,19 @@
 // Arithmetic of polynomials over two elements, a byte a coefficient: sums, the greatest common divisor and the quotient (document 02, request 2.6).
+// Those of a call are slices of one length, known when the program runs: a fact of two values, which the type of neither can hold.
 #![tactic(auto)]
 
 ghost use Rattle.std.specs.Prelude.{◌≡◌, ℕ, suc, ◌≤◌, length};
-ghost use Rattle.blocks.specs.Block.{◌⊕◌, zeros};
+ghost use Rattle.blocks.specs.Block.{◌⊕◌};
 ghost use Rattle.polynomials.specs.Polynomial.{poly_size, raised, gcd_in, gcd, quotient_in, quotient};
 
 // How many coefficients there are up to the last 1.
 pub fn size(p: &[u8]) -> usize
     ensures { result ≡ poly_size p.now }
 {
-    let mut n = 0;
-    let mut i = 0;
-    while i < p.len() {
-        if p[i] == 1 {
-            n = i + 1;
-        }
-        i += 1;
+    match p.iter().rposition(|c| *c == 1) {
+        Some(last) => last + 1,
+        None => 0,
     }
-    n
 }
 
 // Adds x^k times q to p.
@@ -25,10 +21,8 @@ fn add_raised(p: &mut [u8], q: &[u8], k: usize)
     requires { (length q.now ≡ length p.old) × (k ≤ length p.old) }
     ensures { p.new ≡ p.old ⊕ raised k q.now }
 {
-    let mut i = k;
-    while i < p.len() {
-        p[i] = p[i] ^ q[i - k];
-        i += 1;
+    for i in k..p.len() {
+        p[i] ^= q[i - k];
     }
 }
 
@@ -39,16 +33,12 @@ fn lessen(p: &mut [u8], q: &mut [u8])
 {
     let a = size(p);
     let b = size(q);
-    if a == 0 {
-        return;
-    }
-    if b == 0 {
-        return;
-    }
-    if a < b {
-        add_raised(q, p, b - a);
-    } else {
-        add_raised(p, q, a - b);
+    if a > 0 && b > 0 {
+        if a < b {
+            add_raised(q, p, b - a);
+        } else {
+            add_raised(p, q, a - b);
+        }
     }
 }
 
@@ -58,10 +48,8 @@ pub fn gcd(p: &mut [u8], q: &mut [u8])
     ensures { p.new ≡ gcd p.old q.old }
 {
     let most = size(p) + size(q);
-    let mut i = 0;
-    while i < most {
+    for _step in 0..most {
         lessen(p, q);
-        i += 1;
     }
     add_raised(p, q, 0);
 }
@@ -73,25 +61,20 @@ fn divide_once(h: &mut [u8], p: &mut [u8], q: &[u8])
 {
     let a = size(p);
     let b = size(q);
-    if b == 0 {
-        return;
+    if b > 0 && b <= a {
+        h[a - b] = 1;
+        add_raised(p, q, a - b);
     }
-    if a < b {
-        return;
-    }
-    h[a - b] = 1;
-    add_raised(p, q, a - b);
 }
 
-// Puts the quotient of p by q into h, which holds zeros; the remainder is left in p.
+// Puts the quotient of p by q into h; the remainder is left in p.
 pub fn divide(h: &mut [u8], p: &mut [u8], q: &[u8])
-    requires { (h.old ≡ zeros (length p.old)) × (length q.now ≡ length p.old) }
+    requires { (length h.old ≡ length p.old) × (length q.now ≡ length p.old) }
     ensures { h.new ≡ quotient p.old q.now }
 {
+    h.fill(0);
     let most = size(p);
-    let mut i = 0;
-    while i < most {
+    for _step in 0..most {
         divide_once(h, p, q);
-        i += 1;
     }
 }

@@ -1,7 +1,7 @@
 -- Numbers in decimal: their digits do not depend on how many are allowed, the last one stands behind those of n / 10, and how many there
 -- are.
 use Rattle.std.specs.Prelude.{◌≡◌, ◌∷◌, ◌++◌, ◌+◌, ◌-◌, ◌*◌, ◌/◌, ◌%◌, ◌^◌, ◌≤◌, ◌<◌, if◌then◌else◌}
-use Rattle.fips197.proofs.Kit.{refl, sym, ◌∙◌, ap, subst, Bool, true, false, List, [], append_assoc, ℕ, zero, suc, arith, add-one, pow-succ', eqb, ltb, length, take, drop, set, length-append, length-take, length-drop, drop_of_length-le, set_split, drop_at, take_all, ltb-true, ltb-false, eqb-false, eq-eqb, ne_eqb}
+use Rattle.fips197.proofs.Kit.{refl, sym, ◌∙◌, ap, subst, Bool, true, false, List, [], append_assoc, ℕ, zero, suc, arith, add-one, pow-succ', eqb, ltb, length, take, drop, set, length-append, length-take, length-drop, length-set, set_split, drop_at, take_all, ltb-true, ltb-false, eqb-false, eq-eqb, ne_eqb}
 use Rattle.printing.specs.Text.{digits, decimal}
 
 digits_enough : (f g n : ℕ) → n < f → n < g → digits f n ≡ digits g n
@@ -47,40 +47,36 @@ drop_set l k v h =
     let e : length (take k l) ≡ k = simp length-take (omega arith) in
     ap (drop k) (set_split l k v h) ∙ drop_at (take k l) (v ∷ drop (suc k) l) k e ∙ ap (λ (m : ℕ). v ∷ drop m l) (sym (add-one k))
 
--- the last digit is written
-pub digits-first : (n : ℕ) (text : List ℕ) → length text ≡ 20 → decimal n ≡ before (n / 10) ++ drop 19 (set text 19 (48 + n % 10))
-digits-first n text h =
-    let v = 48 + n % 10 in
-    let all : drop 20 text ≡ [] = drop_of_length-le text {i = 20} (omega arith) in
-    decimal-last n ∙ ap (λ (l : List ℕ). before (n / 10) ++ l) (sym (drop_set text 19 v (omega arith) ∙ ap (λ (l : List ℕ). v ∷ l) all))
-
--- and one more, before those that are written
-pub digits-next : (n rest k : ℕ) (text : List ℕ) → decimal n ≡ before rest ++ drop k text → 0 < rest → 0 < k → k ≤ length text
+-- the last digit of what rests is written before those that are
+pub digits-next : (n rest k : ℕ) (text : List ℕ) → decimal n ≡ decimal rest ++ drop k text → 0 < k → k ≤ length text
     → decimal n ≡ before (rest / 10) ++ drop (k - 1) (set text (k - 1) (48 + rest % 10))
-digits-next n rest k text e h low high =
+digits-next n rest k text e low high =
     let v = 48 + rest % 10 in
     let one : k - 1 + 1 ≡ k = omega arith in
-    e ∙ ap (λ (l : List ℕ). l ++ drop k text) (before_more rest h) ∙ append_assoc (before (rest / 10)) (v ∷ []) (drop k text)
+    e ∙ ap (λ (l : List ℕ). l ++ drop k text) (decimal-last rest) ∙ append_assoc (before (rest / 10)) (v ∷ []) (drop k text)
     ∙ ap (λ (l : List ℕ). before (rest / 10) ++ l)
     (sym (drop_set text (k - 1) v (omega arith) ∙ ap (λ (m : ℕ). v ∷ drop m text) one))
 
+pub digits_more : (n rest k : ℕ) (text : List ℕ) → decimal n ≡ decimal rest ++ drop k text → 0 < k → k ≤ length text → (rest / 10 ≡ 0 → ⊥)
+    → decimal n ≡ decimal (rest / 10) ++ drop (k - 1) (set text (k - 1) (48 + rest % 10))
+digits_more n rest k text e low high more =
+    digits-next n rest k text e low high
+    ∙ ap (λ (t : Bool). (if t then [] else decimal (rest / 10)) ++ drop (k - 1) (set text (k - 1) (48 + rest % 10))) (ne_eqb (rest / 10) 0 more)
+
 -- until none is left
-pub digits_done : (n rest k : ℕ) (text : List ℕ) → decimal n ≡ before rest ++ drop k text → rest ≤ 0 → k ≤ 19 → length text ≡ 20
-    → take (20 - k) (drop k text) ≡ decimal n
-digits_done n rest k text e z h l =
-    let r : rest ≡ 0 = omega arith in
-    take_all (20 - k) (drop k text) (simp length-drop (omega arith)) ∙ sym (e ∙ ap (λ (m : ℕ). before m ++ drop k text) r)
+pub digits_done : (n rest k : ℕ) (text : List ℕ) → decimal n ≡ decimal rest ++ drop k text → 0 < k → k ≤ 20 → length text ≡ 20 → rest / 10 ≡ 0
+    → take (20 - (k - 1)) (drop (k - 1) (set text (k - 1) (48 + rest % 10))) ≡ decimal n
+digits_done n rest k text e low high long none =
+    let all : length (drop (k - 1) (set text (k - 1) (48 + rest % 10))) ≤ 20 - (k - 1) = simp (length-drop, length-set) (omega arith) in
+    take_all (20 - (k - 1)) (drop (k - 1) (set text (k - 1) (48 + rest % 10))) all
+    ∙ sym (digits-next n rest k text e low (omega arith) ∙ ap (λ (m : ℕ). before m ++ drop (k - 1) (set text (k - 1) (48 + rest % 10))) none)
 
 -- ---- how many digits
 
 ten_more : (k : ℕ) → 10 ^ suc k ≡ 10 * 10 ^ k
 ten_more k = pow-succ' 10 k
 
-pub tenth_low : (r k : ℕ) → r < 10 ^ k → 0 < r → 1 ≤ k
-tenth_low r zero h l = absurd (omega arith)
-tenth_low r (suc k) h l = omega arith
-
-pub tenth_less : (r k : ℕ) → r < 10 ^ k → 0 < r → r / 10 < 10 ^ (k - 1)
+pub tenth_less : (r k : ℕ) → r < 10 ^ k → 0 < k → r / 10 < 10 ^ (k - 1)
 tenth_less r zero h l = absurd (omega arith)
 tenth_less r (suc k) h l =
     let e : suc k - 1 ≡ k = omega arith in

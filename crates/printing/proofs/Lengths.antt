@@ -5,9 +5,9 @@ use Rattle.incidence.specs.declared.Answer.{Answer}
 use Rattle.incidence.specs.declared.Answer.TheVariants.{Intact, Named, Beyond}
 use Rattle.sizes.specs.Sizes.{family_of}
 use Rattle.sizes.proofs.Laws.{tags_few, limit_few}
-use Rattle.files.specs.declared.Refusal.{Refusal}
+use Rattle.files.specs.Refusals.{Refusal}
 use Rattle.printing.specs.Text.{ascii, decimal, labelled}
-use Rattle.printing.specs.Lines.{limits_line, answer_word, answer_line, card_line, card_part, card_lines, report_lines, refused_line}
+use Rattle.printing.specs.Lines.{limits_line, answer_word, answer_line, card_line, card_part, card_lines, refused_line}
 use Rattle.printing.proofs.Decimals.{decimal-short}
 
 pub decimal-64 : (n : ℕ) → n < 2 ^ 64 → length (decimal n) ≤ 20
@@ -78,14 +78,3 @@ cards_short marks (suc k) h =
     let p = part_short (get_or marks k 0) (suc k) h in
     let e = length-append (card_lines marks k) (card_part (get_or marks k 0) (suc k)) in
     omega (arith, ih, p, e)
-
-pub report_short : (c n : ℕ) (a : Answer) (names rows : ℕ) (marks : List ℕ) (k : ℕ) → n < 2 ^ 64 → names < 2 ^ 64 → rows < 2 ^ 64 → k ≤ 273
-    → length (report_lines c n a names rows marks k) ≤ 7232
-unfolding report_lines
-report_short c n a names rows marks k hn hm hr hk =
-    let l = limits-short c n hn in
-    let w = answer-short a names rows hm hr in
-    let t = cards_short marks k (omega arith) in
-    let p = length-append (limits_line c n ++ answer_line a names rows) (card_lines marks k) in
-    let q = length-append (limits_line c n) (answer_line a names rows) in
-    omega (arith, l, w, t, p, q)

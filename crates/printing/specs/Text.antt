@@ -1,5 +1,5 @@
--- Text as ASCII bytes: words, numbers in decimal, and what a list holds once text is put over it. Assumes nothing.
-use Rattle.std.specs.Prelude.{List, [], ◌∷◌, ◌++◌, ℕ, zero, suc, ◌+◌, ◌/◌, ◌%◌, ltb, length, take, drop, if◌then◌else◌}
+-- Text as ASCII bytes: words, and numbers in decimal. Assumes nothing.
+use Rattle.std.specs.Prelude.{List, [], ◌∷◌, ◌++◌, ℕ, zero, suc, ◌+◌, ◌/◌, ◌%◌, ltb, if◌then◌else◌}
 use Prim.Native.Char.{code}
 use Prim.Native.String.{String, [] as end, ◌∷◌ as ◌then◌}
 
@@ -20,7 +20,3 @@ decimal n = digits (suc n) n
 -- a word and a number behind it
 unfoldable pub labelled : String → ℕ → List ℕ
 labelled word n = ascii word ++ decimal n
-
--- s with a text put over it at a place; the bytes before and behind stay
-unfoldable pub over : ℕ → List ℕ → List ℕ → List ℕ
-over at text s = take at s ++ (text ++ drop (at + length text) s)

@@ -1,7 +1,7 @@
 -- What the tests of an input settle, and what a readable input holds.
 use Rattle.std.specs.Prelude.{◌≡◌, ◌&&◌, ◌+◌, ◌≤◌, ◌<◌}
-use Rattle.fips197.proofs.Kit.{sym, ap, ◌∙◌, Bool, true, false, List, ℕ, leb, length, leb-true, le-leb, lt-leb}
-use Rattle.incidence.proofs.Booleans.{and_left, and_right, and_false_l, and_false_r}
+use Rattle.fips197.proofs.Kit.{sym, ap, ◌∙◌, Bool, false, List, ℕ, leb, length, le-leb, lt-leb}
+use Rattle.incidence.proofs.Booleans.{and_false_l, and_false_r}
 use Rattle.reporting.specs.Printed.{first_size, readable}
 
 module _ (input : List ℕ) where
@@ -26,11 +26,3 @@ module _ (input : List ℕ) where
   unfolding readable
   if_whole h l =
       sym (ap (λ (t : Bool). t && (short && whole)) (le-leb 51 (length input) h) ∙ ap (λ (t : Bool). t && whole) (le-leb (length input) 65536 l))
-
-  pub readable-long : readable input ≡ true → 51 ≤ length input
-  unfolding readable
-  readable-long h = leb-true 51 (length input) (and_left long (short && whole) h)
-
-  pub readable-whole : readable input ≡ true → 51 + first_size input ≤ length input
-  unfolding readable
-  readable-whole h = leb-true (51 + first_size input) (length input) (and_right short whole (and_right long (short && whole) h))

@@ -1,10 +1,10 @@
 -- What each function puts is the text that its contract names: refused, or done.
-use Rattle.std.specs.Prelude.{◌≡◌, ◌++◌, ◌+◌, ◌-◌, if◌then◌else◌}
+use Rattle.std.specs.Prelude.{◌≡◌, ◌++◌, ◌+◌, ◌-◌, ◌≤◌, if◌then◌else◌}
 use Rattle.fips197.proofs.Kit.{sym, ap, ap₂, ◌∙◌, Bool, true, false, List, ℕ, arith, length, get_or, take, drop, length-drop, take_at, take_all}
 use Rattle.blocks.specs.Block.{zeros}
 use Rattle.blocks.proofs.Slots.{slot-length}
 use Rattle.incidence.specs.declared.Answer.{Answer}
-use Rattle.files.specs.declared.Refusal.{Refusal}
+use Rattle.files.specs.Refusals.{Refusal}
 use Rattle.files.specs.Message.{number16, item_count, item}
 use Rattle.files.specs.TagFile.{file_size}
 use Rattle.files.proofs.Passing.{given, kept}
@@ -14,8 +14,15 @@ use Rattle.checks.specs.Refused.{tag_refusal, report_refusal}
 use Rattle.scheme.specs.Calls.{tag_writes, report_answer, report_named, report_rows, report_writes}
 use Rattle.checks.proofs.Checking.{taggable}
 use Rattle.printing.specs.Text.{ascii}
-use Rattle.printing.specs.Lines.{report_lines, refused_line}
+use Rattle.printing.specs.Lines.{limits_line, answer_line, report_lines, refused_line}
+use Rattle.printing.proofs.CardLines.{cards_of}
 use Rattle.reporting.specs.Printed.{key_bytes, code_byte, first_size, first_message, second_message, readable, report_text, tag_text, printed}
+
+-- the report of the first k marks says what that of all of them says of k cards
+pub report_front : (c n : ℕ) (said : Answer) (names rows : ℕ) (marks : List ℕ) (k : ℕ) → k ≤ length marks
+    → report_lines c n said names rows (take k marks) (length (take k marks)) ≡ report_lines c n said names rows marks k
+unfolding report_lines
+report_front c n said names rows marks k l = ap (λ (t : List ℕ). limits_line c n ++ answer_line said names rows ++ t) (cards_of marks k l)
 
 -- ---- the report
 

@@ -6,7 +6,7 @@ use Rattle.fips197.proofs.Kit.{refl, sym, ap, ap₂, ◌∙◌, Bool, true, fals
 use Rattle.blocks.specs.Block.{Bytes}
 use Rattle.incidence.proofs.Sums.{row_sum-same}
 use Rattle.sizes.specs.Sizes.{family_of}
-use Rattle.files.specs.declared.Refusal.{Refusal}
+use Rattle.files.specs.Refusals.{Refusal}
 use Rattle.files.specs.Refusals.{none, passes, first}
 use Rattle.files.specs.Message.{refuse8}
 use Rattle.files.specs.declared.tagfile.Head.{Head}

@@ -20,7 +20,7 @@ use Rattle.sizes.proofs.Laws.{plane-limit}
 use Rattle.stamp.specs.declared.Stamp.{Stamp}
 use Rattle.stamp.specs.Front.{number_size, stamp_fits, version_of, stamp_of}
 use Rattle.stamp.proofs.Fronts.{number_small}
-use Rattle.files.specs.declared.Refusal.{Refusal}
+use Rattle.files.specs.Refusals.{Refusal}
 use Rattle.files.specs.Refusals.{refusal, none, unless, first}
 use Rattle.files.specs.Message.{items_at, item_count, item, item_start, item_size, refuse3, refuse5, refuse8}
 use Rattle.files.specs.declared.tagfile.Head.{Head}

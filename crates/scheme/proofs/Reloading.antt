@@ -12,7 +12,7 @@ use Rattle.incidence.proofs.Rejects.{none_left_out}
 use Rattle.sizes.specs.Sizes.{family_of}
 use Rattle.sizes.proofs.Laws.{lawful}
 use Rattle.stamp.specs.Front.{stamp_of}
-use Rattle.files.specs.declared.Refusal.{Refusal}
+use Rattle.files.specs.Refusals.{Refusal}
 use Rattle.files.specs.Refusals.{none}
 use Rattle.files.specs.Message.{item_count, item, refuse3, refuse5}
 use Rattle.files.specs.declared.tagfile.Head.{Head}

@@ -6,7 +6,7 @@ use Rattle.blocks.specs.Block.{zeros}
 use Rattle.incidence.proofs.Booleans.{not_both, and_left, and_right, and_both}
 use Rattle.incidence.proofs.Counting.{inside_yes}
 use Rattle.sizes.specs.Sizes.{known, family_of}
-use Rattle.files.specs.declared.Refusal.{Refusal}
+use Rattle.files.specs.Refusals.{Refusal}
 use Rattle.files.specs.Refusals.{refusal, none, first}
 use Rattle.files.specs.TagFile.{count_fits, file_size}
 use Rattle.files.specs.Arguments.{refuse1, refuse2, refuse4, refuse7, refuse9}

@@ -5,12 +5,12 @@ use Rattle.blocks.specs.Block.{zeros}
 use Rattle.incidence.specs.Count.{inside}
 use Rattle.incidence.proofs.Counting.{inside-low, inside-high}
 use Rattle.sizes.specs.Sizes.{known, family_of}
-use Rattle.files.specs.declared.Refusal.{Refusal}
+use Rattle.files.specs.Refusals.{Refusal}
 use Rattle.files.specs.Refusals.{none, first}
 use Rattle.files.specs.TagFile.{stamp_for, file_size, count_fits}
 use Rattle.files.specs.Arguments.{refuse1, refuse2, refuse4, refuse7, refuse9}
 use Rattle.incidence.proofs.Booleans.{and_left, and_right}
-use Rattle.files.proofs.Passing.{rest-passes, unless-passes, number_of}
+use Rattle.files.proofs.Passing.{rest-passes, unless-passes, number_along}
 use Rattle.keyed.specs.Keyed.{item_hash}
 use Rattle.tagging.specs.declared.Keys.{Keys}
 use Rattle.tagging.specs.Tagging.{keys_in}
@@ -43,7 +43,7 @@ pub record Begins (keys : List ℕ) (c n : ℕ) : Type 0 where
 pub begin_tells : (keys : List ℕ) (c n : ℕ) (r : Refusal) → r ≡ begin_refusal keys c n → r.number ≡ 0 → Begins keys c n
 unfolding begin_refusal refuse1 refuse2 refuse4
 begin_tells keys c n r e h =
-    let p = all_pass (refuse1 (length keys)) (refuse2 c) (refuse4 c n) (number_of r _ e h) in
+    let p = all_pass (refuse1 (length keys)) (refuse2 c) (refuse4 c n) (number_along r _ e h) in
     let t = unless-passes (inside (family_of c).items n) 4 0 (omega arith) p.2 in
     record {
       long = eqb-true (length keys) 48 (unless-passes (eqb (length keys) 48) 1 0 (omega arith) p.0);
@@ -68,7 +68,7 @@ pub record Puts (s : Session) (item : List ℕ) : Type 0 where
 pub put_tells : (s : Session) (item : List ℕ) (r : Refusal) → r ≡ put_refusal s item → r.number ≡ 0 → Puts s item
 unfolding put_refusal refuse22 refuse9
 put_tells s item r e h =
-    let p = all_pass (refuse24 s) (refuse22 s) (refuse9 (length item) 0) (number_of r _ e h) in
+    let p = all_pass (refuse24 s) (refuse22 s) (refuse9 (length item) 0) (number_along r _ e h) in
     record {
       code = (open_tells s p.0).0;
       more = ltb-true _ _ (unless-passes (ltb s.taken s.count) 22 0 (omega arith) p.1);
@@ -83,7 +83,7 @@ pub record Closes (s : Session) (out : List ℕ) : Type 0 where
 pub close_tells : (s : Session) (out : List ℕ) (r : Refusal) → r ≡ close_refusal s out → r.number ≡ 0 → Closes s out
 unfolding close_refusal refuse7
 close_tells s out r e h =
-    let p = all_pass (refuse24 s) (refuse23 s) (refuse7 (file_size (session_head s)) (length out)) (number_of r _ e h) in
+    let p = all_pass (refuse24 s) (refuse23 s) (refuse7 (file_size (session_head s)) (length out)) (number_along r _ e h) in
     let o = open_tells s p.0 in
     record { code = o.0; fits = o.1; room = leb-true _ _ (unless-passes (leb (file_size (session_head s)) (length out)) 7 0 (omega arith) p.2) }
 

@@ -4,19 +4,19 @@
 
 ghost use Rattle.std.specs.Prelude.{◌≡◌, true, [], ◌∷◌, ◌≤◌, ◌<◌, length};
 ghost use Rattle.sizes.specs.Sizes.{known};
-ghost use Rattle.files.specs.Refusals.{first};
+ghost use Rattle.files.specs.Refusals.{told, first};
 ghost use Rattle.files.specs.Arguments.{refuse7};
 ghost use Rattle.files.specs.TagFile.{file_size};
 ghost use Rattle.session.specs.Session.{closed, session_is_open, session_head, refuse22, refuse23, refuse24, begin_refusal, begin_gives, put_refusal, with_item, put_gives, close_refusal, close_gives, close_writes};
 
 use cipher::{cmac, engine};
-use files::refusals::{first3, unless};
+use files::refusals::unless;
 use files::tagfile::Head;
-use files::{Refusal, arguments, tagfile};
+use files::{Reason, Refused, arguments, tagfile};
 use tagging::Keys;
 
 // A session: the message's number, size code, how many items it is for and has taken, the three keys, and the sums of the tags.
-#[derive(Clone, Copy)]
+#[derive(Clone, Copy, PartialEq, Eq)]
 pub struct Session {
     pub number: u32,
     pub code: u64,
@@ -26,10 +26,11 @@ pub struct Session {
     pub sums: [u8; sums::TAGS_MOST],
 }
 
-// What a step gives: its refusal, with number 0 where there is none, and the next session.
+// What a step gives: whether it is done or refused, and the next session. The session stands beside the result and not in it, since document 01
+// has each step, a refused one too, take the session and give back the next (clause `session` of begin, put and close).
 #[derive(Clone, Copy)]
 pub struct Step {
-    pub refused: Refusal,
+    pub done: Result<(), Refused>,
     pub session: Session,
 }
 
@@ -52,36 +53,37 @@ fn closed() -> Session
 }
 
 // Begin's refusal: 1, 2 or 4, or none.
-fn begin_refusal(keys: &[u8], code: u64, n: u64) -> Refusal
-    ensures { result ≡ begin_refusal keys.now code n }
+#[tactic(auto, using(files::proofs::Passing::checked), unfolding(crate::specs::Session::begin_refusal))]
+fn begin_refusal(keys: &[u8], code: u64, n: u64) -> Result<(), Refused>
+    ensures { told result ≡ begin_refusal keys.now code n }
 {
-    let wrong_keys = arguments::check_keys(keys);
-    let wrong_code = arguments::check_code(code);
-    let wrong_count = arguments::check_count(code, n);
-    first3(wrong_keys, wrong_code, wrong_count)
+    arguments::check_keys(keys)?;
+    arguments::check_code(code)?;
+    arguments::check_count(code, n)
 }
 
 // Begins a session for n items of a size code, of the message with this number. Refuses 1, 2, 4, the first that applies, and gives the closed
 // session then.
 pub fn begin(keys: &[u8], code: u64, n: u64, number: u32) -> Step
-    ensures refused { result.refused ≡ begin_refusal keys.now code n }
+    ensures refused { told result.done ≡ begin_refusal keys.now code n }
     ensures session { result.session ≡ begin_gives keys.now code n number }
 {
-    let refused = begin_refusal(keys, code, n);
-    if refused.number == 0 {
-        let session = Session {
-            number,
-            code,
-            count: n,
-            taken: 0,
-            keys: tagging::keys_in(keys),
-            sums: [0u8; sums::TAGS_MOST],
-        };
-        return Step { refused, session };
-    }
-    Step {
-        refused,
-        session: closed(),
+    match begin_refusal(keys, code, n) {
+        Ok(()) => Step {
+            done: Ok(()),
+            session: Session {
+                number,
+                code,
+                count: n,
+                taken: 0,
+                keys: tagging::keys_in(keys),
+                sums: [0u8; sums::TAGS_MOST],
+            },
+        },
+        Err(refused) => Step {
+            done: Err(refused),
+            session: closed(),
+        },
     }
 }
 
@@ -94,39 +96,38 @@ impl Session {
     }
 
     // Refusal 24, or none.
-    fn check_open(self) -> Refusal
-        ensures { result ≡ refuse24 self }
+    fn check_open(self) -> Result<(), Refused>
+        ensures { told result ≡ refuse24 self }
     {
-        unless(self.is_open(), 24, 0)
+        unless(self.is_open(), Reason::Shut, 0)
     }
 
     // Refusal 22, or none.
-    fn check_more(self) -> Refusal
-        ensures { result ≡ refuse22 self }
+    fn check_more(self) -> Result<(), Refused>
+        ensures { told result ≡ refuse22 self }
     {
-        unless(self.taken < self.count, 22, 0)
+        unless(self.taken < self.count, Reason::Full, 0)
     }
 
     // Refusal 23, or none.
-    fn check_all(self) -> Refusal
-        ensures { result ≡ refuse23 self }
+    fn check_all(self) -> Result<(), Refused>
+        ensures { told result ≡ refuse23 self }
     {
-        unless(self.taken == self.count, 23, self.taken as usize)
+        unless(self.taken == self.count, Reason::Early, self.taken as usize)
     }
 
     // Put's refusal: 24, 22 or 9, or none.
-    fn put_refusal(self, item: &[u8]) -> Refusal
-        ensures { result ≡ put_refusal self item.now }
+    #[tactic(auto, using(files::proofs::Passing::checked), unfolding(crate::specs::Session::put_refusal))]
+    fn put_refusal(self, item: &[u8]) -> Result<(), Refused>
+        ensures { told result ≡ put_refusal self item.now }
     {
-        let shut = self.check_open();
-        let full = self.check_more();
-        let long = arguments::check_item(item, 0);
-        first3(shut, full, long)
+        self.check_open()?;
+        self.check_more()?;
+        arguments::check_item(item, 0)
     }
 
     // The session with one item more, for a put that passes.
     fn with_item(self, item: &[u8]) -> Session
-        requires code_value { known self.code ≡ true }
         requires taken_lt_count { self.taken < self.count }
         requires item_len_bound { length item.now ≤ 1024 }
         ensures { result ≡ with_item self item.now }
@@ -153,19 +154,18 @@ impl Session {
 
     // Puts the next item. Refuses 24, 22, 9, the first that applies; the session is unchanged then.
     pub fn put(self, item: &[u8]) -> Step
-        ensures refused { result.refused ≡ put_refusal self item.now }
+        ensures refused { told result.done ≡ put_refusal self item.now }
         ensures session { result.session ≡ put_gives self item.now }
     {
-        let refused = self.put_refusal(item);
-        if refused.number != 0 {
-            return Step {
-                refused,
+        match self.put_refusal(item) {
+            Ok(()) => Step {
+                done: Ok(()),
+                session: self.with_item(item),
+            },
+            Err(refused) => Step {
+                done: Err(refused),
                 session: self,
-            };
-        }
-        Step {
-            refused,
-            session: self.with_item(item),
+            },
         }
     }
 
@@ -181,35 +181,36 @@ impl Session {
     }
 
     // Close's refusal: 24, 23 or 7, or none, where so many bytes are lent.
-    fn close_refusal(self, room: usize) -> Refusal
-        ensures { result ≡ first (refuse24 self ∷ refuse23 self ∷ refuse7 (file_size (session_head self)) room ∷ []) }
+    #[tactic(auto, using(files::proofs::Passing::checked))]
+    fn close_refusal(self, room: usize) -> Result<(), Refused>
+        ensures { told result ≡ first (refuse24 self ∷ refuse23 self ∷ refuse7 (file_size (session_head self)) room ∷ []) }
     {
-        let size = tagfile::file_size(self.head());
-        let shut = self.check_open();
-        let early = self.check_all();
-        let short = arguments::check_room(size, room);
-        first3(shut, early, short)
+        self.check_open()?;
+        self.check_all()?;
+        arguments::check_room(tagfile::file_size(self.head()), room)
     }
 
     // Closes the session: writes the tag file of its items to the front of out; the bytes behind stay. Refuses 24, 23, 7, the first that
     // applies; session and out are unchanged then.
     pub fn close(self, out: &mut [u8]) -> Step
-        ensures refused { result.refused ≡ close_refusal self out.old }
+        ensures refused { told result.done ≡ close_refusal self out.old }
         ensures session { result.session ≡ close_gives self out.old }
         ensures written { out.new ≡ close_writes self out.old }
     {
-        let refused = self.close_refusal(out.len());
-        if refused.number != 0 {
-            return Step {
-                refused,
+        match self.close_refusal(out.len()) {
+            Ok(()) => {
+                let t = engine::tables();
+                tagging::write_file(&t, self.head(), self.keys, &self.sums, out);
+                let session = closed();
+                Step {
+                    done: Ok(()),
+                    session,
+                }
+            }
+            Err(refused) => Step {
+                done: Err(refused),
                 session: self,
-            };
+            },
         }
-        let keys = self.keys;
-        let sums = self.sums;
-        let t = engine::tables();
-        tagging::write_file(&t, self.head(), keys, &sums, out);
-        let session = closed();
-        Step { refused, session }
     }
 }

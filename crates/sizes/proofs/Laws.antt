@@ -1,13 +1,13 @@
 -- What a crate above may use of the size codes: every known code's family is lawful, a plane's is projective and its limit at least 2, the
 -- numbers are small, and a code that is none has nothing. It needs nothing else of planes, and nothing of lines.
-use Rattle.std.specs.Prelude.{◌≡◌, ◌++◌, ◌⊎◌, ◌/◌, ◌%◌, ◌≤◌, ◌<◌, if◌then◌else◌}
-use Rattle.fips197.proofs.Kit.{refl, ap, ◌∙◌, sym, Bool, true, false, List, subst, inl, inr, ℕ, zero, suc, arith, leb, length, get_or, drop, List·getD-append, leb-true, leb-false}
+use Rattle.std.specs.Prelude.{◌≡◌, ◌&&◌, ◌++◌, ◌⊎◌, ◌/◌, ◌%◌, ◌≤◌, ◌<◌, if◌then◌else◌}
+use Rattle.fips197.proofs.Kit.{refl, ap, ◌∙◌, sym, Bool, true, false, List, subst, inl, inr, ℕ, zero, suc, arith, leb, length, get_or, take, drop, take_at, List·getD-append, leb-true, leb-false}
 use Rattle.incidence.specs.Count.{inside}
 use Rattle.incidence.specs.Family.{Family, Lawful, Projective, items_of, tags_of}
-use Rattle.incidence.proofs.Booleans.{or_cases, or-first, or_second, not_both, not_passed}
+use Rattle.incidence.proofs.Booleans.{and_left, and_right, or_cases, or-first, or_second, not_both, not_passed}
 use Rattle.incidence.proofs.Counting.{inside-low, inside-high, inside_yes}
 use Rattle.plane.specs.Table.{item_counts, plane_items, tag_counts, plane_tags, limits, plane_limit}
-use Rattle.plane.specs.Plane.{plane}
+use Rattle.plane.specs.Plane.{on, plane}
 use Rattle.plane.proofs.Planes as planes
 use Rattle.plane.proofs.Walks as walks
 use Rattle.plane.proofs.Lookup.{items-most, tags-most, limit-most, limit-least, no_items, no_tags, no_limit}
@@ -26,16 +26,6 @@ by_kind P c f g = go (affine_code c) refl
     go : (b : Bool) → affine_code c ≡ b → P (if b then affine_family (c / 16) (c % 16) else plane c)
     go true e = f e
     go false e = g e
-
-module _ (c : ℕ) {s l : ℕ} {r : Bool} (e : r ≡ affine_code c) where
-  -- as the code finds it
-  pub affine-size : r ≡ true → s ≡ c / 16 → l ≡ c % 16 → sized s l ≡ true
-  unfolding affine_code
-  affine-size t p q = rw (p, q) (sym e ∙ t)
-
-  pub affine_family_lem : r ≡ true → s ≡ c / 16 → l ≡ c % 16 → affine_family s l ≡ family_of c
-  unfolding family_of
-  affine_family_lem t p q = rw (p, q, sym e ∙ t)
 
 pub plane_family : (c : ℕ) {r : Bool} → r ≡ affine_code c → r ≡ false → plane c ≡ family_of c
 unfolding family_of
@@ -136,6 +126,22 @@ pub unknown : (c : ℕ) → known c ≡ false → Empty (family_of c)
 unfolding known
 unknown c h = by_kind Empty c (λ e. absurd (not_both _ (or_second (plane_code c) e) h)) (λ e. no_plane c (not_passed _ (λ t. not_both _ (or-first (affine_code c) t) h)))
 
+-- and a code that is none has no rows to ask about
+pub lawful_rows : (c : ℕ) → 1 ≤ (family_of c).rows → Lawful (family_of c)
+lawful_rows c some = go (known c) refl
+  where
+    go : (b : Bool) → known c ≡ b → Lawful (family_of c)
+    go true h = lawful c h
+    go false h = absurd (omega (arith, (unknown c h).no_rows))
+
+-- a row holds items only
+pub on_items : (c i j : ℕ) → (family_of c).on i j ≡ true → j ≤ (family_of c).items
+unfolding plane on affine_family
+on_items c i j =
+    by_kind (λ F. F.on i j ≡ true → j ≤ F.items) c
+    (λ e o. inside-high _ j (and_right (inside _ i) _ (and_left (inside _ i && inside _ j) _ o)))
+    (λ e o. inside-high _ j (and_right (inside _ i) _ (and_left (inside _ i && inside _ j) _ o)))
+
 -- a row's tag is never after the row
 pub tag_before : (c i : ℕ) → (family_of c).tag_of_row i ≤ i
 unfolding affine_code
@@ -159,3 +165,7 @@ made_list_few c i =
 
 pub written_at : (l was : List ℕ) {now : List ℕ} {n : ℕ} → (now ≡ l ++ drop (length l) was) × (n ≡ length l) → (k : ℕ) → k < n → get_or now k 0 ≡ get_or l k 0
 written_at l was w k h = ap (λ (x : List ℕ). get_or x k 0) w.0 ∙ List·getD-append l (drop (length l) was) 0 k (omega (arith, w.1))
+
+-- the front that is written is the list
+pub written_front : (l was : List ℕ) {now : List ℕ} {n : ℕ} → (now ≡ l ++ drop (length l) was) × (n ≡ length l) → take n now ≡ l
+written_front l was {n = n} w = ap (take n) w.0 ∙ take_at l (drop (length l) was) n (sym w.1)

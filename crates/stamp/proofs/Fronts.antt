@@ -74,14 +74,6 @@ four_at s at h =
     ∙ ap₂ ◌++◌ (two_at s at (omega arith)) (two_at s (at + 2) (omega arith))
     ∙ sym (take-add 2 2 (drop at s) ∙ ap (λ (t : List ℕ). take 2 (drop at s) ++ take 2 t) (drop-drop 2 at s))
 
--- three bytes one by one
-pub three_are : (l : List ℕ) → length l ≡ 3 → get_or l 0 0 ∷ get_or l 1 0 ∷ get_or l 2 0 ∷ [] ≡ l
-three_are [] h = absurd (omega arith)
-three_are (a ∷ []) h = absurd (omega arith)
-three_are (a ∷ b ∷ []) h = absurd (omega arith)
-three_are (a ∷ b ∷ d ∷ []) h = refl
-three_are (a ∷ b ∷ d ∷ e ∷ l) h = absurd (omega arith)
-
 -- without a number, and with one
 module _ (letters : List ℕ) (h : length letters ≡ 3) (st : Stamp) (o o1 : List ℕ) (e1 : o1 ≡ (letters ++ big_endian 2 st.version) ++ drop 5 o) where
   five : length (letters ++ big_endian 2 st.version) ≡ 5

@@ -14,14 +14,15 @@ const NUMBER_AT: usize = 5;
 
 const BEHIND_NUMBER: usize = 9;
 
-// The version of a file and the number of its shelf.
+// The version of a file and the number of its shelf, both as the file has them: the crates above read the version as a number.
 #[derive(Clone, Copy)]
 pub struct Stamp {
     pub version: u16,
     pub number: u32,
 }
 
-// How many bytes letters, version and number are in a version.
+// How many bytes letters, version and number are in a version. (Which version is tested by an `if`, here and below: a `match` on the number would
+// say the same.)
 pub fn front_size(version: u16) -> usize
     ensures { (result ≡ front_size version) × (5 ≤ result) × (result ≤ 9) }
 {
@@ -89,12 +90,8 @@ fn put_version(out: &mut [u8], letters: [u8; 3], version: u16)
     requires { 5 ≤ length out.old }
     ensures { out.new ≡ (letters ++ big_endian 2 version) ++ drop 5 out.old }
 {
-    let v = block::to_be16(version);
-    out[0] = letters[0];
-    out[1] = letters[1];
-    out[2] = letters[2];
-    out[VERSION_AT] = v[0];
-    out[VERSION_AT + 1] = v[1];
+    out[..VERSION_AT].copy_from_slice(&letters);
+    out[VERSION_AT..NUMBER_AT].copy_from_slice(&block::to_be16(version));
 }
 
 // Writes a number behind the version; all else stays.
@@ -102,11 +99,7 @@ fn put_number(out: &mut [u8], number: u32)
     requires { 9 ≤ length out.old }
     ensures { out.new ≡ take 5 out.old ++ (big_endian 4 number ++ drop 9 out.old) }
 {
-    let n = block::to_be32(number);
-    out[NUMBER_AT] = n[0];
-    out[NUMBER_AT + 1] = n[1];
-    out[NUMBER_AT + 2] = n[2];
-    out[NUMBER_AT + 3] = n[3];
+    out[NUMBER_AT..BEHIND_NUMBER].copy_from_slice(&block::to_be32(number));
 }
 
 // Writes letters, version and, but in version 1, the number to the front of out; what is behind them stays.

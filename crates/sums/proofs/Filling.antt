@@ -5,7 +5,8 @@ use Rattle.fips197.proofs.Kit.{refl, sym, ap, ap₂, ◌∙◌, Bool, true, fals
 use Rattle.blocks.specs.Block.{◌⊕◌, slot, zeros}
 use Rattle.incidence.specs.Sum.{sum_of, expanded}
 use Rattle.incidence.specs.Family.{Family, Lawful}
-use Rattle.incidence.proofs.Sums.{sum_of_ext, expanded_ext, expanded-made, expanded-tagged}
+use Rattle.sizes.proofs.Laws.{written_at}
+use Rattle.incidence.proofs.Sums.{earlier-at, sum_of_ext, expanded_ext, expanded-made, expanded-tagged}
 use Rattle.sums.specs.Adding.{sum_in, Holds, spread_tags}
 use Rattle.sums.proofs.Walking.{Partly, partly_none, partly_all, partly_new, partly_old, partly_kept, partly_put}
 
@@ -22,6 +23,19 @@ sum_more sum rows r k a l h ea er =
     let e : k ≡ suc (k - 1) = omega arith in
     ap₂ (λ (x : ℕ) (y : List ℕ). sum x ⊕ y) ea (er ∙ ap (λ (m : ℕ). sum_of sum (drop m rows)) e)
     ∙ ap (sum_of sum) (sym (drop-cons rows (k - 1) 0 (omega arith)))
+
+-- a row that a row without a tag is made of, as it is written: one before it
+pub record Made (rows : List ℕ) (i k x : ℕ) : Type 0 where
+  pub row : x ≡ get_or rows k 0
+  pub low : 1 ≤ x
+  pub before : x < i
+
+pub made_here : (F : Family) → Lawful F → (i : ℕ) → 1 ≤ i → i ≤ F.rows → F.tag_of_row i ≡ 0 → (was : List ℕ) {now : List ℕ} {n : ℕ}
+    → (now ≡ F.made i ++ drop (length (F.made i)) was) × (n ≡ length (F.made i)) → {k x : ℕ} → k < n → x ≡ get_or now k 0 → Made (F.made i) i k x
+made_here F L i l u z was w {k} h r =
+    let e = r ∙ written_at (F.made i) was w k h in
+    let m = earlier-at i (F.made i) (L.earlier i l u z) k (omega (arith, w.1)) in
+    record { row = e; low = omega (arith, m.0, e); before = omega (arith, m.1, e) }
 
 -- ---- the tags' sums move to their rows, from the last
 
@@ -117,16 +131,16 @@ pub fill_done : (F : Family) (before s : List ℕ) (k : ℕ) → Filled F before
 fill_done F before s k W h = partly_all F.rows (λ j. leb j k) (from_tagged F before) before s W (λ j l u. le-leb j k (omega arith))
 
 -- both steps
-pub fill_both : (F : Family) → Lawful F → (a b c : List ℕ) → Holds F.rows (spread_tags F a) a b → Holds F.rows (from_tagged F b) b c
+pub fill_both : (F : Family) → (1 ≤ F.rows → Lawful F) → (a b c : List ℕ) → Holds F.rows (spread_tags F a) a b → Holds F.rows (from_tagged F b) b c
     → Holds F.rows (expanded F (sum_in a)) a c
 fill_both F L a b c P Q = record {
   size = Q.size ∙ P.size;
-  sums = λ i l u. Q.sums i l u ∙ expanded_ext F L (λ k. sum_in b (F.row_of_tag k)) (sum_in a) moved i l u;
+  sums = λ i l u. let M = L (omega (arith, l, u)) in Q.sums i l u ∙ expanded_ext F M (λ k. sum_in b (F.row_of_tag k)) (sum_in a) (moved M) i l u;
   rest = Q.rest ∙ P.rest;
 }
   where
-    moved : (k : ℕ) → 1 ≤ k → k ≤ F.tags → sum_in b (F.row_of_tag k) ≡ sum_in a k
-    moved k l u =
-        let e = L.tag_back k l u in
-        P.sums (F.row_of_tag k) (L.row_low k l u) (L.row-high k l u)
+    moved : Lawful F → (k : ℕ) → 1 ≤ k → k ≤ F.tags → sum_in b (F.row_of_tag k) ≡ sum_in a k
+    moved M k l u =
+        let e = M.tag_back k l u in
+        P.sums (F.row_of_tag k) (M.row_low k l u) (M.row-high k l u)
         ∙ spread_some F a (F.row_of_tag k) (λ z. omega arith) ∙ ap (sum_in a) e

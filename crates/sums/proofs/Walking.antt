@@ -9,6 +9,7 @@ use Rattle.incidence.specs.Count.{count_up_to, listed}
 use Rattle.incidence.specs.Family.{Family, tags_of}
 use Rattle.incidence.proofs.Listing.{Member, tags_of-at, listed_rank, listed-length}
 use Rattle.incidence.proofs.Counting.{count_before}
+use Rattle.sizes.proofs.Laws.{written_front}
 use Rattle.sums.specs.Adding.{sum_in, Holds, Added}
 
 -- ---- one sum after another
@@ -152,3 +153,13 @@ module _ (F : Family) (j : ℕ) where
   pub tags_counted : length (tags_of F j) ≡ count_up_to (λ t. F.on (F.row_of_tag t) j) F.tags
   unfolding tags_of
   tags_counted = listed-length (λ t. F.on (F.row_of_tag t) j) F.tags
+
+  -- the tags as they are written, each gone over
+  module _ (was : List ℕ) {now : List ℕ} {n : ℕ} (w : (now ≡ tags_of F j ++ drop (length (tags_of F j)) was) × (n ≡ length (tags_of F j))) where
+    pub tag_here : (k : ℕ) → k < length (take n now) → Member (λ t. F.on (F.row_of_tag t) j) F.tags k (get_or (take n now) k 0)
+    tag_here k h =
+        let e = written_front (tags_of F j) was w in
+        tag_is k _ (ap (λ (l : List ℕ). get_or l k 0) e) (omega (arith, ap length e))
+
+    pub tags_done : count_up_to (λ t. F.on (F.row_of_tag t) j) F.tags ≤ length (take n now)
+    tags_done = omega (arith, tags_counted, ap length (written_front (tags_of F j) was w))

@@ -2,11 +2,18 @@
 // proved to be what the rule gives, by one test over the whole table (proofs/TableRules.antt).
 ghost use Rattle.tables.specs.RoundTables.{RoundTables, inv_round_entry};
 
-// The tables.
-pub fn table() -> [u32; 512]
-    ensures { RoundTables result inv_round_entry }
-{
-    INV_ROUND_TABLES
+// The tables. A type beside `Tables`, since one type for both would need a marker type for each, and say no more.
+#[derive(Drop)]
+pub struct InvTables {
+    pub words: [u32; 512],
+    ghost entries: { RoundTables words inv_round_entry },
+}
+
+// The tables. A caller takes them once and passes them down by reference.
+pub fn table() -> InvTables {
+    InvTables {
+        words: INV_ROUND_TABLES,
+    }
 }
 
 const INV_ROUND_TABLES: [u32; 512] = [

@@ -4,15 +4,14 @@ ghost use Rattle.std.specs.Prelude.{◌≡◌, ◌<◌, length};
 ghost use Rattle.fips197.specs.Words.{bytes_of};
 ghost use Rattle.tables.specs.RoundTables.{decipher_word, DecipherWords};
 
-use fips197::columns::key_word;
 use fips197::words;
 
 // Word i of the deciphering schedule.
 fn decipher_word(w: &[u8; 176], i: usize) -> u32
-    requires { (i < 44) × (length w.now ≡ 176) }
+    requires { i < 44 }
     ensures { bytes_of result ≡ decipher_word w.now i }
 {
-    let x = key_word(w, i);
+    let x = words::word_at(w, 4 * i);
     if i < 4 {
         return x;
     }
@@ -27,10 +26,8 @@ pub fn decipher_words(w: [u8; 176]) -> [u32; 44]
     ensures { DecipherWords result w }
 {
     let mut k = [0u32; 44];
-    let mut i = 0;
-    while i < 44 {
+    for i in 0..44 {
         k[i] = decipher_word(&w, i);
-        i += 1;
     }
     k
 }

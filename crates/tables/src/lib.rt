@@ -7,12 +7,12 @@ ghost use Rattle.std.specs.Prelude.{◌≡◌};
 ghost use Rattle.fips197.specs.Aes.{cipher, inv_cipher};
 
 use fips197::inv_sbox;
+pub use fips197::schedule;
 
 pub mod inv_round_tables;
 pub mod keys;
 pub mod round_tables;
 pub mod rounds;
-pub mod schedule;
 
 // Enciphers a block with an expanded key.
 pub fn encipher_with(w: [u8; 176], block: [u8; 16]) -> [u8; 16]

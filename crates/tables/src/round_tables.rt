@@ -3,10 +3,17 @@
 ghost use Rattle.tables.specs.RoundTables.{RoundTables, round_entry};
 
 // The tables.
-pub fn table() -> [u32; 512]
-    ensures { RoundTables result round_entry }
-{
-    ROUND_TABLES
+#[derive(Drop)]
+pub struct Tables {
+    pub words: [u32; 512],
+    ghost entries: { RoundTables words round_entry },
+}
+
+// The tables. A caller takes them once and passes them down by reference.
+pub fn table() -> Tables {
+    Tables {
+        words: ROUND_TABLES,
+    }
 }
 
 const ROUND_TABLES: [u32; 512] = [

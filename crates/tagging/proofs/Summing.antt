@@ -10,7 +10,7 @@ use Rattle.incidence.specs.Sum.{sum_over, row_sum}
 use Rattle.incidence.proofs.Sums.{Values, sum_length}
 use Rattle.sizes.specs.Sizes.{family_of}
 use Rattle.stamp.specs.declared.Stamp.{Stamp}
-use Rattle.files.specs.declared.Refusal.{Refusal}
+use Rattle.files.specs.Refusals.{Refusal}
 use Rattle.files.specs.Refusals.{none}
 use Rattle.files.specs.Message.{number16, item_count, behind, item_start, item_size, item, refuse5}
 use Rattle.files.proofs.Messages.{Fits, item-fits}

@@ -5,7 +5,6 @@
 ghost use Rattle.std.specs.Prelude.{◌≡◌, true, ◌++◌, ◌*◌, ◌≤◌, length, drop};
 ghost use Rattle.blocks.specs.Block.{◌⊕◌};
 ghost use Rattle.cipher.specs.Cmac.{mac_with};
-ghost use Rattle.cipher.specs.Engine.{EngineTables};
 ghost use Rattle.sizes.specs.Sizes.{known, family_of};
 ghost use Rattle.files.specs.Refusals.{none};
 ghost use Rattle.stamp.specs.Front.{version_of};
@@ -19,20 +18,19 @@ use blocks::block;
 use cipher::cmac::MacKey;
 use cipher::engine::Tables;
 use cipher::{cmac, engine};
-use files::message::Cursor;
 use files::tagfile::Head;
 use files::{message, tagfile};
 use stamp::Stamp;
 
 // The three keys (document 01: card key, tag key, seal key).
-#[derive(Clone, Copy)]
+#[derive(Clone, Copy, PartialEq, Eq)]
 pub struct Keys {
     pub item: [u8; 16],
     pub tag: [u8; 16],
     pub seal: [u8; 16],
 }
 
-// The keys of a bundle of 48 bytes.
+// The keys of a bundle of 48 bytes. (The length is a premise: the bundle is a lent slice of any length until refusal 1 has looked at it.)
 pub fn keys_in(s: &[u8]) -> Keys
     requires { 48 ≤ length s.now }
     ensures { result ≡ keys_in s.now }
@@ -44,7 +42,8 @@ pub fn keys_in(s: &[u8]) -> Keys
     }
 }
 
-// What the tag file that Tag makes of a message says: the newest version and the message's number, size code and count.
+// What the tag file that Tag makes of a message says: the newest version and the message's number, size code and count. (It is asked of files
+// that the checks of a call let through, and of bytes as long as a head by `reporting`, which has Tag's answer alone.)
 pub fn head_for(code: u64, s: &[u8]) -> Head
     requires { items_at (version_of s.now) ≤ length s.now }
     ensures { result ≡ tag_head code s.now }
@@ -69,8 +68,6 @@ pub fn add_item(
     item: &[u8],
     room: &mut [u8],
 )
-    requires engine_tables { EngineTables t.now }
-    requires code_value { known code ≡ true }
     requires code_in_bounds { 16 * (family_of code).tags ≤ length sums.old }
     requires item_len_bound { (length item.now ≤ 1024) × (1040 ≤ length room.old) }
     ensures added { Added (λ t. (family_of code).on ((family_of code).row_of_tag t) j) (family_of code).tags (item_hash_by (mac_with k) stamp j item.now) sums.old sums.new }
@@ -83,8 +80,6 @@ pub fn add_item(
 // Adds the hashes of the items of a message that is not refused, under this stamp, to the sums of their tagged rows; what is behind the sums
 // stays.
 pub fn add_items(t: &Tables, code: u64, keys: Keys, stamp: Stamp, s: &[u8], sums: &mut [u8])
-    requires engine_tables { EngineTables t.now }
-    requires code_value { known code ≡ true }
     requires s_in_bounds { (items_at (version_of s.now) ≤ length s.now) × (length s.now ≤ 65536) × (refuse5 s.now ≡ none) }
     requires code_in_bounds { 16 * (family_of code).tags ≤ length sums.old }
     ensures { Holds (family_of code).tags (λ k. sum_in sums.old k ⊕ tag_sum keys stamp code (item s.now) (item_count s.now) k) sums.old sums.new }
@@ -93,19 +88,17 @@ pub fn add_items(t: &Tables, code: u64, keys: Keys, stamp: Stamp, s: &[u8], sums
     let k = cmac::prepare(t, key);
     let n = message::item_count(s);
     let mut room = [0u8; keyed::ROOM];
-    let mut c = Cursor::first(s);
-    while c.passed < n {
-        let start = c.at + 2;
-        c = c.next(s);
-        let end = c.at;
-        add_item(t, code, k, stamp, sums, c.passed, &s[start..end], &mut room);
+    let mut at = message::first_at(s);
+    for i in 0..n {
+        let end = message::item_end(s, at);
+        add_item(t, code, k, stamp, sums, i + 1, &s[at + 2..end], &mut room);
+        at = end;
     }
 }
 
 // Writes the tag file that says head before its tags, which are made of the sums at the front of sums, sealed, to the front of out; what is
 // behind it stays.
 pub fn write_file(t: &Tables, head: Head, keys: Keys, sums: &[u8], out: &mut [u8])
-    requires engine_tables { EngineTables t.now }
     requires code_value { known head.code ≡ true }
     requires count_bound { head.count ≤ (family_of head.code).items }
     requires code_in_bounds { (16 * (family_of head.code).tags ≤ length sums.now) × (file_size head ≤ length out.old) }

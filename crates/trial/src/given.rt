@@ -1,224 +1,303 @@
-// What a call is given: a number for each word of a line, and the bytes of its arguments.
-ghost use Rattle.std.specs.Prelude.{◌≤◌, ◌<◌, length};
+// What a call is given: the words of a line with their numbers, and the bytes of the arguments.
+ghost use Rattle.std.specs.Prelude.{◌≤◌};
 
 use crate::{inputs, sheets};
 use blocks::block;
 use files::message;
 
-// The words by their places among the numbers. The first five are arguments of bytes, and their numbers are lengths.
-pub const WORDS: [u8; 160] =
-    *b"shelf   keys    sheet   old     new     size    count   card    lent    \
-    puts    taken   closed  byte    is      flip    cards   altered version number  vacant  ";
-
-pub const SHELF: usize = 0;
-
-pub const KEYS: usize = 1;
-
-pub const SHEET: usize = 2;
-
-pub const OLD: usize = 3;
-
-pub const NEW: usize = 4;
-
-pub const SIZE: usize = 5;
-
-pub const COUNT: usize = 6;
-
-pub const CARD: usize = 7;
-
-pub const LENT: usize = 8;
-
-pub const PUTS: usize = 9;
-
-pub const TAKEN: usize = 10;
-
-pub const CLOSED: usize = 11;
-
-const BYTE: usize = 12;
-
-const IS: usize = 13;
-
-const FLIP: usize = 14;
-
-const CARDS: usize = 15;
-
-const ALTERED: usize = 16;
-
-pub const VERSION: usize = 17;
-
-pub const NUMBER: usize = 18;
-
-const VACANT: usize = 19;
-
-// Behind the words: a number that is not 0 where some word was none of them, and which argument of bytes was named last.
-pub const UNKNOWN: usize = 20;
-
-const LAST: usize = 21;
-
-// Where a line does not say otherwise: a shelf of two cards, the keys, the shelf's sheet of size 1, both files of version 1, its card 1 by the
-// letter b.
-pub const USUAL: [u64; 22] = [
-    12, 48, 88, 1, 1, 1, 2, 1, 1400, 0, 0, 0, 0, 0, 0, 0, 0, 1, 0, 0, 0, 0,
-];
-
-// Where the bytes of an argument start.
-fn start(a: usize) -> usize
-    ensures { result ≤ 70656 }
-{
-    if a == SHELF {
-        return 0;
-    }
-    64512 + 1536 * (a % 5)
+// The arguments of bytes.
+#[derive(Clone, Copy)]
+pub enum Argument {
+    Shelf,
+    Keys,
+    Sheet,
+    Old,
+    New,
 }
 
-// The first n bytes of an argument.
-pub fn part(bytes: &[u8], a: usize, n: u64) -> &[u8] {
-    let from = start(a);
-    let to = from + (n % 65538) as usize;
-    if to <= bytes.len() {
-        return &bytes[from..to];
-    }
-    &bytes[0..0]
-}
-
-// Writes the sheet of the shelf as it is, of a size, in a version.
-fn put_sheet(bytes: &mut [u8], size: u64, n: u64, version: u64)
-    requires { 72192 ≤ length bytes.old }
-{
-    let sheet = sheets::tagged(
-        &inputs::KEYS,
-        size,
-        part(bytes, SHELF, n),
-        version,
-        [0u8; 1400],
-    );
-    inputs::put(bytes, 67584, &sheet);
-}
-
-// Writes the bytes of the usual arguments, each where it starts.
-pub fn put_usual(bytes: &mut [u8])
-    requires { 72192 ≤ length bytes.old }
-{
-    inputs::put(bytes, 0, &inputs::SHELF);
-    inputs::put(bytes, 66048, &inputs::KEYS);
-    inputs::put(bytes, 69120, b"a");
-    inputs::put(bytes, 70656, b"b");
-    put_sheet(bytes, 1, 12, 1);
-}
-
-// Sets the number of a word.
-pub fn set(n: &mut [u64; 22], w: usize, v: u64)
-    requires { w < 21 }
-{
-    n[w] = v;
-    if w < 5 {
-        n[LAST] = w as u64;
-    }
-    if w == UNKNOWN {
-        n[UNKNOWN] = 1;
+impl Argument {
+    // Where its bytes start.
+    fn start(self) -> usize
+        ensures { result ≤ 70656 }
+    {
+        match self {
+            Argument::Shelf => 0,
+            Argument::Keys => 66048,
+            Argument::Sheet => 67584,
+            Argument::Old => 69120,
+            Argument::New => 70656,
+        }
     }
 }
 
-// A byte as `is` or `flip` leaves it, and as any other word does.
-fn altered(old: u8, w: usize, x: u8) -> u8 {
-    match w {
-        IS => x,
-        FLIP => old ^ x,
-        _ => old,
-    }
+// The words. The number behind the name of an argument of bytes is its length.
+#[derive(Clone, Copy)]
+enum Word {
+    Length(Argument),
+    Size,
+    Count,
+    Card,
+    Lent,
+    Puts,
+    Taken,
+    Closed,
+    Byte,
+    Is,
+    Flip,
+    Cards,
+    Altered,
+    Version,
+    Number,
+    Vacant,
 }
 
-// Alters a byte of the argument named last.
-fn alter(bytes: &mut [u8], last: u64, byte: u64, w: usize, v: u64) {
-    let at = start((last % 5) as usize) + (byte % 65538) as usize;
-    if at < bytes.len() {
-        bytes[at] = altered(bytes[at], w, (v % 256) as u8);
+fn word_of(text: &[u8]) -> Option<Word> {
+    Some(match text {
+        b"shelf" => Word::Length(Argument::Shelf),
+        b"keys" => Word::Length(Argument::Keys),
+        b"sheet" => Word::Length(Argument::Sheet),
+        b"old" => Word::Length(Argument::Old),
+        b"new" => Word::Length(Argument::New),
+        b"size" => Word::Size,
+        b"count" => Word::Count,
+        b"card" => Word::Card,
+        b"lent" => Word::Lent,
+        b"puts" => Word::Puts,
+        b"taken" => Word::Taken,
+        b"closed" => Word::Closed,
+        b"byte" => Word::Byte,
+        b"is" => Word::Is,
+        b"flip" => Word::Flip,
+        b"cards" => Word::Cards,
+        b"altered" => Word::Altered,
+        b"version" => Word::Version,
+        b"number" => Word::Number,
+        b"vacant" => Word::Vacant,
+        _ => return None,
+    })
+}
+
+// The numbers as the words left them, and the bytes. `shelf` to `new` are lengths, `byte` is a place in the argument named last, and `unknown`
+// says that some word was none of the words.
+#[derive(Drop)]
+pub struct Given {
+    shelf: u64,
+    keys: u64,
+    sheet: u64,
+    old: u64,
+    new: u64,
+    pub size: u64,
+    pub count: u64,
+    pub card: u64,
+    pub lent: u64,
+    pub puts: u64,
+    pub taken: u64,
+    pub closed: u64,
+    byte: u64,
+    pub version: u64,
+    number: u64,
+    pub unknown: bool,
+    last: Argument,
+    bytes: [u8; 72192],
+}
+
+impl Given {
+    // Where a line does not say otherwise: a shelf of two cards, the keys, the shelf's sheet of size 1, both files of version 1, its card 1 by
+    // the letter b.
+    pub fn usual() -> Given {
+        let mut given = Given {
+            shelf: 12,
+            keys: 48,
+            sheet: 88,
+            old: 1,
+            new: 1,
+            size: 1,
+            count: 2,
+            card: 1,
+            lent: 1400,
+            puts: 0,
+            taken: 0,
+            closed: 0,
+            byte: 0,
+            version: 1,
+            number: 0,
+            unknown: false,
+            last: Argument::Shelf,
+            bytes: [0u8; 72192],
+        };
+        given.put_usual();
+        given
+    }
+
+    // Writes the bytes of the usual arguments, each where it starts.
+    fn put_usual(&mut self) {
+        block::put_bytes(&mut self.bytes, Argument::Shelf.start(), &inputs::SHELF);
+        block::put_bytes(&mut self.bytes, Argument::Keys.start(), &inputs::KEYS);
+        block::put_bytes(&mut self.bytes, Argument::Old.start(), b"a");
+        block::put_bytes(&mut self.bytes, Argument::New.start(), b"b");
+        self.put_sheet();
+    }
+
+    fn length(&self, a: Argument) -> u64 {
+        match a {
+            Argument::Shelf => self.shelf,
+            Argument::Keys => self.keys,
+            Argument::Sheet => self.sheet,
+            Argument::Old => self.old,
+            Argument::New => self.new,
+        }
+    }
+
+    // The bytes of an argument, as many as are given.
+    pub fn part(&self, a: Argument) -> &[u8] {
+        let from = a.start();
+        let to = from + (self.length(a) % 65538) as usize;
+        if to <= self.bytes.len() {
+            return &self.bytes[from..to];
+        }
+        &[]
+    }
+
+    // The last 32 bits of the number.
+    pub fn number32(&self) -> u32 {
+        number32(self.number)
+    }
+
+    // Takes a word of a line with its number.
+    pub fn take(&mut self, text: &[u8], v: u64) {
+        match word_of(text) {
+            Some(word) => self.set(word, v),
+            None => self.unknown = true,
+        }
+    }
+
+    // Sets the number of a word, or does with the bytes what it says.
+    fn set(&mut self, word: Word, v: u64) {
+        match word {
+            Word::Length(a) => self.set_length(a, v),
+            Word::Size => self.size = v,
+            Word::Count => self.count = v,
+            Word::Card => self.card = v,
+            Word::Lent => self.lent = v,
+            Word::Puts => self.puts = v,
+            Word::Taken => self.taken = v,
+            Word::Closed => self.closed = v,
+            Word::Byte => self.byte = v,
+            Word::Version => self.version = v,
+            Word::Is | Word::Flip | Word::Cards | Word::Altered | Word::Number | Word::Vacant => {
+                self.alter(word, v);
+            }
+        }
+    }
+
+    fn set_length(&mut self, a: Argument, v: u64) {
+        self.last = a;
+        match a {
+            Argument::Shelf => self.shelf = v,
+            Argument::Keys => self.keys = v,
+            Argument::Sheet => {
+                self.sheet = v;
+                self.put_sheet();
+            }
+            Argument::Old => self.old = v,
+            Argument::New => self.new = v,
+        }
+    }
+
+    // Writes the sheet of the shelf as it is, of the size, in the version.
+    fn put_sheet(&mut self) {
+        let sheet = sheets::tagged(
+            &inputs::KEYS,
+            self.size,
+            self.part(Argument::Shelf),
+            self.version,
+            [0u8; 1400],
+        );
+        block::put_bytes(&mut self.bytes, Argument::Sheet.start(), &sheet);
+    }
+
+    // Does what a word says that alters bytes.
+    fn alter(&mut self, word: Word, v: u64) {
+        let low = (v % 256) as u8;
+        match word {
+            Word::Is => self.alter_byte(|_| low),
+            Word::Flip => self.alter_byte(|old| old ^ low),
+            Word::Cards => self.put_cards(v % 274),
+            Word::Altered => {
+                let first = self.first_card();
+                inputs::alter(&mut self.bytes, first, 2, 2 + low as usize);
+            }
+            Word::Number => self.put_number(v),
+            Word::Vacant => self.vacate(v),
+            _ => {}
+        }
+    }
+
+    // Alters the byte of the argument named last.
+    fn alter_byte<F: Fn(u8) -> u8>(&mut self, change: F)
+        requires { F.IsAlwaysCallable change }
+    {
+        let at = self.last.start() + (self.byte % 65538) as usize;
+        if at < self.bytes.len() {
+            self.bytes[at] = change(self.bytes[at]);
+        }
+    }
+
+    // Makes the shelf one of so many short cards.
+    fn put_cards(&mut self, count: u64)
+        requires { count ≤ 273 }
+    {
+        self.shelf = 7 + 4 * count;
+        inputs::put_short_cards(&mut self.bytes, count as usize);
+    }
+
+    // Gives the shelf a number: it is of version 2 then.
+    fn put_number(&mut self, v: u64) {
+        self.number = v;
+        self.widen();
+        block::put_bytes(&mut self.bytes, 4, b"\x02");
+        block::put_bytes(&mut self.bytes, 5, &block::to_be32(number32(v)));
+    }
+
+    // Makes room for a number in a shelf of version 1.
+    fn widen(&mut self) {
+        if self.bytes[4] == 1 {
+            let long = self.shelf % 65533;
+            inputs::move_on(&mut self.bytes, 5, long as usize);
+            self.shelf = long + 4;
+        }
+    }
+
+    // Where the first card of the shelf stands, behind its length.
+    fn first_card(&self) -> usize
+        ensures { (2 ≤ result) × (result ≤ 13) }
+    {
+        message::items_at(stamp::version_of(&self.bytes)) + 2
+    }
+
+    // Alters card j of a shelf of short cards; j is taken modulo 274, and 0 is none.
+    pub fn alter_card(&mut self, j: u64) {
+        let e = (j % 274) as usize;
+        if e != 0 {
+            let first = self.first_card();
+            inputs::alter(&mut self.bytes, first, e - 1, e);
+        }
+    }
+
+    // Takes away the bytes of card j of a shelf whose cards up to it have two bytes each.
+    fn vacate(&mut self, j: u64) {
+        let before = (j % 274 + 273) % 274;
+        let at = self.first_card() + 4 * before as usize;
+        let long = (self.shelf % 65538) as usize;
+        if at + 2 <= long {
+            inputs::put_number(&mut self.bytes, at - 2, 0);
+            inputs::move_back(&mut self.bytes, at + 2, long);
+            self.shelf = (long - 2) as u64;
+        }
     }
 }
 
 // The last 32 bits of a number.
-pub fn number32(v: u64) -> u32 {
+fn number32(v: u64) -> u32 {
     (v % 0x1_0000_0000) as u32
-}
-
-// Makes room for a number in a shelf of version 1; gives how long the shelf is then.
-fn widen(bytes: &mut [u8], n: u64) -> u64
-    requires { 72192 ≤ length bytes.old }
-{
-    if bytes[4] != 1 {
-        return n;
-    }
-    let long = n % 65533;
-    inputs::move_on(bytes, 5, long as usize);
-    long + 4
-}
-
-// Gives the shelf a number: it is of version 2 then.
-fn number(n: &mut [u64; 22], bytes: &mut [u8], v: u64)
-    requires { 72192 ≤ length bytes.old }
-{
-    n[SHELF] = widen(bytes, n[SHELF]);
-    inputs::put(bytes, 4, b"\x02");
-    inputs::put(bytes, 5, &block::to_be32(number32(v)));
-}
-
-// Where the first card of the shelf stands, behind its length.
-fn first_card(bytes: &[u8]) -> usize
-    requires { 72192 ≤ length bytes.now }
-    ensures { (2 ≤ result) × (result ≤ 13) }
-{
-    message::items_at(stamp::version_of(bytes)) + 2
-}
-
-// Alters card j of a shelf of short cards; j is taken modulo 274, and 0 is none.
-pub fn alter_card(bytes: &mut [u8], j: u64)
-    requires { 72192 ≤ length bytes.old }
-{
-    let e = (j % 274) as usize;
-    if e != 0 {
-        inputs::alter(bytes, first_card(bytes), e - 1, e);
-    }
-}
-
-// Takes away the bytes of card j of a shelf whose cards up to it have two bytes each; gives how long the shelf is then.
-fn vacate(bytes: &mut [u8], n: u64, j: u64) -> u64
-    requires { 72192 ≤ length bytes.old }
-{
-    let before = (j % 274 + 273) % 274;
-    let at = first_card(bytes) + 4 * before as usize;
-    let long = (n % 65538) as usize;
-    if long < at + 2 {
-        return n;
-    }
-    inputs::put_number(bytes, at - 2, 0);
-    inputs::move_back(bytes, at + 2, long);
-    (long - 2) as u64
-}
-
-// Makes the bytes that a word with its number stands for.
-pub fn make(n: &mut [u64; 22], bytes: &mut [u8], w: usize, v: u64)
-    requires { 72192 ≤ length bytes.old }
-{
-    if w == SHEET {
-        put_sheet(bytes, n[SIZE], n[SHELF], n[VERSION]);
-        return;
-    }
-    if w == CARDS {
-        n[SHELF] = 7 + 4 * (v % 274);
-        inputs::put_short_cards(bytes, (v % 274) as usize);
-        return;
-    }
-    if w == ALTERED {
-        inputs::alter(bytes, first_card(bytes), 2, 2 + (v % 256) as usize);
-        return;
-    }
-    if w == NUMBER {
-        number(n, bytes, v);
-        return;
-    }
-    if w == VACANT {
-        n[SHELF] = vacate(bytes, n[SHELF], v);
-        return;
-    }
-    alter(bytes, n[LAST], n[BYTE], w, v);
 }

@@ -9,25 +9,18 @@ pub const KEYS: [u8; 48] = *b"key of the cardskey of the tags.key of the seal.";
 // A shelf of two cards: the letter a, and the empty card.
 pub const SHELF: [u8; 12] = *b"TBS\x00\x01\x00\x02\x00\x01a\x00\x00";
 
-// Writes bytes at a place.
-pub fn put(out: &mut [u8], at: usize, text: &[u8])
-    requires { at + length text.now ≤ length out.old }
-{
-    out[at..at + text.len()].copy_from_slice(text);
-}
-
 // Writes a number as two bytes at a place.
 pub fn put_number(out: &mut [u8], at: usize, n: u16)
     requires { at + 2 ≤ length out.old }
 {
-    put(out, at, &block::to_be16(n));
+    block::put_bytes(out, at, &block::to_be16(n));
 }
 
 // Writes the seven bytes of a shelf before its cards.
 pub fn put_header(shelf: &mut [u8], n: u16)
     requires { 7 ≤ length shelf.old }
 {
-    put(shelf, 0, b"TBS\x00\x01");
+    block::put_bytes(shelf, 0, b"TBS\x00\x01");
     put_number(shelf, 5, n);
 }
 
@@ -36,11 +29,9 @@ pub fn put_short_cards(shelf: &mut [u8], n: usize)
     requires { (7 + 4 * n ≤ length shelf.old) × (n ≤ 273) }
 {
     put_header(shelf, n as u16);
-    let mut i = 0;
-    while i < n {
+    for i in 0..n {
         put_number(shelf, 7 + 4 * i, 2);
         put_number(shelf, 9 + 4 * i, (i + 1) as u16);
-        i += 1;
     }
 }
 
@@ -48,10 +39,8 @@ pub fn put_short_cards(shelf: &mut [u8], n: usize)
 pub fn move_on(shelf: &mut [u8], from: usize, n: usize)
     requires { (n + 4 ≤ length shelf.old) × (n ≤ 65536) }
 {
-    let mut i = n;
-    while from < i {
-        i -= 1;
-        shelf[i + 4] = shelf[i];
+    if from < n {
+        shelf.copy_within(from..n, from + 4);
     }
 }
 
@@ -59,10 +48,8 @@ pub fn move_on(shelf: &mut [u8], from: usize, n: usize)
 pub fn move_back(shelf: &mut [u8], from: usize, n: usize)
     requires { (2 ≤ from) × (n ≤ length shelf.old) }
 {
-    let mut i = from;
-    while i < n {
-        shelf[i - 2] = shelf[i];
-        i += 1;
+    if from < n {
+        shelf.copy_within(from..n, from - 2);
     }
 }
 
@@ -70,10 +57,8 @@ pub fn move_back(shelf: &mut [u8], from: usize, n: usize)
 pub fn alter(shelf: &mut [u8], first: usize, a: usize, e: usize)
     requires { (first + 4 * e ≤ length shelf.old) × (first ≤ 13) × (e ≤ 273) }
 {
-    let mut i = a;
-    while i < e {
+    for i in a..e {
         put_number(shelf, first + 4 * i, (i + 4097) as u16);
-        i += 1;
     }
 }
 

@@ -11,113 +11,52 @@
 //     cards N                         the shelf is one of N cards of two bytes, each with its number
 //     altered N                       cards 3 to 2 + N of such a shelf are altered
 //     vacant J                        card J of such a shelf has no bytes from then on; of several, the last is named first
-ghost use Rattle.std.specs.Prelude.{◌*◌, ◌≤◌, ◌<◌, length};
+ghost use Rattle.std.specs.Prelude.{◌-◌, ◌≤◌, length};
 
-use crate::{calls, given};
+use crate::calls;
+use crate::given::Given;
 use command::numbers;
 use std::io;
 
-// The place of the first such byte from a place on, or the end.
-fn find(line: &[u8], at: usize, byte: u8) -> usize
-    requires { at ≤ length line.now }
-    ensures { (at ≤ result) × (result ≤ length line.now) }
+// What stands before the first such byte and what behind it; all and nothing where there is none.
+fn split_first_at(text: &[u8], byte: u8) -> (&[u8], &[u8])
+    ensures { length result.1.now ≤ length text.now - 1 }
 {
-    match line[at..].iter().position(|b| *b == byte) {
-        Some(k) => at + k,
-        None => line.len(),
+    match text.iter().position(|b| *b == byte) {
+        Some(k) => (&text[..k], &text[k + 1..]),
+        None => (text, &[]),
     }
 }
 
-// The word that starts at a place: up to the next space or the end.
-fn word(line: &[u8], at: usize) -> &[u8]
-    requires { at ≤ length line.now }
-{
-    let end = find(line, at, b' ');
-    &line[at..end]
-}
-
-// The place behind that word and its space.
-fn behind(line: &[u8], at: usize) -> usize
-    requires { at < length line.now }
-    ensures { (at < result) × (result ≤ length line.now) }
-{
-    let end = find(line, at, b' ');
-    if end < line.len() {
-        return end + 1;
-    }
-    end
-}
-
-// The same, and the line's end where no word is left.
-fn next(line: &[u8], at: usize) -> usize
-    requires { at ≤ length line.now }
-    ensures { (at ≤ result) × (result ≤ length line.now) }
-{
-    if at < line.len() {
-        return behind(line, at);
-    }
-    at
-}
-
-// Which of n words, in a list with eight bytes for each, a word is; n where it is none.
-fn place_in(list: &[u8], n: usize, w: &[u8]) -> usize
-    requires { 8 * n ≤ length list.now }
-    ensures { result ≤ n }
-{
-    let mut i = 0;
-    while i < n {
-        let at = 8 * i;
-        if word(&list[at..at + 8], 0) == w {
-            return i;
-        }
-        i += 1;
-    }
-    n
-}
-
-// Does what the word and the number at a place say; gives the place behind them.
-fn step(line: &[u8], at: usize, n: &mut [u64; 22], bytes: &mut [u8]) -> usize
-    requires { (at < length line.now) × (72192 ≤ length bytes.old) }
-    ensures { (at < result) × (result ≤ length line.now) }
-{
-    let from = behind(line, at);
-    let w = place_in(&given::WORDS, 20, word(line, at));
-    let p = numbers::number_in(word(line, from));
-    given::set(n, w, p.value);
-    given::make(n, bytes, w, p.value);
-    next(line, from)
-}
-
-// Does what the words from a place on say.
-fn steps(line: &[u8], from: usize, n: &mut [u64; 22], bytes: &mut [u8])
-    requires { (from ≤ length line.now) × (72192 ≤ length bytes.old) }
-{
-    let mut at = from;
-    while at < line.len() {
-        at = step(line, at, n, bytes);
+// Does what the words say, each with its number; 0 where that is none. `split` would give an empty word more behind a last space.
+fn follow(words: &[u8], given: &mut Given) {
+    let mut rest = words;
+    while !rest.is_empty() {
+        let (word, tail) = split_first_at(rest, b' ');
+        let (number, tail) = split_first_at(tail, b' ');
+        given.take(word, numbers::number_in(number).unwrap_or(0));
+        rest = tail;
     }
 }
 
 // Runs the call of a line, and says the line and what came out.
 fn run(rt: &impl Print, line: &[u8]) -> io::Result<()> {
-    let mut n = given::USUAL;
-    let mut bytes = [0u8; 72192];
-    given::put_usual(&mut bytes);
-    steps(line, next(line, 0), &mut n, &mut bytes);
-    let call = place_in(&calls::NAMES, 9, word(line, 0));
-    calls::run(rt, line, call, &n, &mut bytes)
+    let (call, words) = split_first_at(line, b' ');
+    let mut given = Given::usual();
+    follow(words, &mut given);
+    calls::run(rt, line, call, &mut given)
 }
 
 // How many bytes a text of lines has at most.
 pub const TEXT_MOST: usize = 65536;
 
-// Runs each line of a text.
+// Runs each line of a text. `split` would give an empty line more behind a last line end.
 pub fn run_all(rt: &impl Print, text: &[u8]) -> io::Result<()> {
-    let mut at = 0;
-    while at < text.len() {
-        let end = find(text, at, b'\n');
-        run(rt, &text[at..end])?;
-        at = end + 1;
+    let mut rest = text;
+    while !rest.is_empty() {
+        let (line, tail) = split_first_at(rest, b'\n');
+        run(rt, line)?;
+        rest = tail;
     }
     Ok(())
 }

@@ -1,9 +1,7 @@
 // What a line says.
-ghost use Rattle.std.specs.Prelude.{◌≤◌, IfOk};
-
-use files::Refusal;
+use decoding::Decoded;
+use files::Refused;
 use incidence::Answer;
-use scheme::Reported;
 use std::io;
 
 pub fn text(rt: &impl Print, bytes: &[u8]) -> io::Result<()> {
@@ -14,27 +12,19 @@ pub fn number(rt: &impl Print, n: u64) -> io::Result<()> {
     rt.print(n)
 }
 
-// The first text where the test holds, else the second.
-pub fn either(rt: &impl Print, holds: bool, first: &[u8], second: &[u8]) -> io::Result<()> {
-    if holds {
-        text(rt, first)
-    } else {
-        text(rt, second)
-    }
-}
-
-fn wide(x: u8) -> u64 {
-    x as u64
-}
-
-pub fn outcome(rt: &impl Print, r: Refusal) -> io::Result<()> {
-    if r.number == 0 {
-        return text(rt, b": accepted");
-    }
+pub fn refused(rt: &impl Print, r: Refused) -> io::Result<()> {
     text(rt, b": refused ")?;
-    number(rt, wide(r.number))?;
+    number(rt, u64::from(r.reason.number()))?;
     text(rt, b" place ")?;
     number(rt, r.place as u64)
+}
+
+// Whether a call was refused.
+pub fn outcome(rt: &impl Print, done: Result<(), Refused>) -> io::Result<()> {
+    match done {
+        Ok(()) => text(rt, b": accepted"),
+        Err(r) => refused(rt, r),
+    }
 }
 
 fn answer(rt: &impl Print, a: Answer) -> io::Result<()> {
@@ -45,7 +35,7 @@ fn answer(rt: &impl Print, a: Answer) -> io::Result<()> {
     }
 }
 
-pub fn found(rt: &impl Print, f: Reported) -> io::Result<()> {
+pub fn found(rt: &impl Print, f: Decoded) -> io::Result<()> {
     let said = f.answer;
     answer(rt, said)?;
     number(rt, f.named as u64)?;
@@ -53,28 +43,14 @@ pub fn found(rt: &impl Print, f: Reported) -> io::Result<()> {
     number(rt, f.rows as u64)
 }
 
-// Says the number of a card if it is named; gives 1 if it is cleared, and else 0.
-fn mark(rt: &impl Print, j: usize, x: u8) -> io::Result<u64>
-    ensures { IfOk result (λ n. n ≤ 1) }
-{
-    if x == 1 {
-        text(rt, b", card ")?;
-        number(rt, j as u64)?;
-    }
-    if x == 0 {
-        return Ok(1);
-    }
-    Ok(0)
-}
-
 // The numbers of the cards that are named, and how many are cleared.
 pub fn marks(rt: &impl Print, out: &[u8]) -> io::Result<()> {
-    let mut cleared: u64 = 0;
-    let mut i = 0;
-    while i < out.len() {
-        cleared += mark(rt, i + 1, out[i])?;
-        i += 1;
+    for (i, mark) in out.iter().enumerate() {
+        if *mark == 1 {
+            text(rt, b", card ")?;
+            number(rt, i as u64 + 1)?;
+        }
     }
     text(rt, b", cleared ")?;
-    number(rt, cleared)
+    number(rt, out.iter().filter(|mark| **mark == 0).count() as u64)
 }

@@ -1,15 +1,13 @@
 // Sessions that are under way.
-use crate::given;
+use crate::given::{Argument, Given};
 use files::message;
-use session::Session;
+use session::{Session, Step};
 
 // The session with the first k cards of a shelf put.
 pub fn put_cards(begun: Session, shelf: &[u8], k: u64) -> Session {
     let mut s = begun;
-    let mut j = 0;
-    while j < k {
-        j += 1;
-        let next = s.put(message::fetch(shelf, j));
+    for i in 0..k {
+        let next = s.put(message::fetch(shelf, i + 1));
         s = next.session;
     }
     s
@@ -31,20 +29,20 @@ fn with_taken(s: Session, taken: u64) -> Session {
     r
 }
 
+// What `begin` gives.
+pub fn begin(given: &Given) -> Step {
+    session::begin(
+        given.part(Argument::Keys),
+        given.size,
+        given.count,
+        given.number32(),
+    )
+}
+
 // The session that put and close are called of.
-pub fn given(n: &[u64; 22], bytes: &[u8]) -> Session {
-    let keys = given::part(bytes, given::KEYS, n[given::KEYS]);
-    let shelf = given::part(bytes, given::SHELF, n[given::SHELF]);
-    let step = session::begin(
-        keys,
-        n[given::SIZE],
-        n[given::COUNT],
-        given::number32(n[given::NUMBER]),
-    );
-    let put = put_cards(step.session, shelf, n[given::PUTS]);
-    let s = with_taken(put, n[given::TAKEN]);
-    if n[given::CLOSED] == 0 {
-        return s;
-    }
-    closed(s)
+pub fn under_way(given: &Given) -> Session {
+    let step = begin(given);
+    let put = put_cards(step.session, given.part(Argument::Shelf), given.puts);
+    let s = with_taken(put, given.taken);
+    if given.closed == 0 { s } else { closed(s) }
 }

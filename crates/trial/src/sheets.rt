@@ -34,8 +34,7 @@ fn in_version(keys: &[u8], size: u64, shelf: &[u8], version: u16, room: [u8; 140
 // stay.
 pub fn tagged(keys: &[u8], size: u64, shelf: &[u8], version: u64, room: [u8; 1400]) -> [u8; 1400] {
     let mut sheet = room;
-    let r = scheme::tag(keys, size, shelf, &mut sheet);
-    if r.number != 0 {
+    if scheme::tag(keys, size, shelf, &mut sheet).is_err() {
         return room;
     }
     if version == 3 {

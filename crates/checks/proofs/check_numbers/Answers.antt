@@ -17,8 +17,8 @@ returns c =
 
 pub stamp_of-own-requires : goal.stamp_of-own-requires
 unfolding items_at tags_at
-stamp_of-own-requires c = omega (arith, headed _ c.requires.0)
+stamp_of-own-requires c = omega (arith, headed _ c.args.message.now.headed)
 
 pub stamp_of-other-requires : goal.stamp_of-other-requires
 unfolding items_at tags_at
-stamp_of-other-requires c = omega (arith, formed _ c.requires.1)
+stamp_of-other-requires c = omega (arith, formed _ c.args.file.now.formed)

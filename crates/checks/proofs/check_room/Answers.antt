@@ -10,4 +10,4 @@ returns c =
     c.check_room.ensures ∙ ap (λ (n : ℕ). refuse7 n c.args.room) (c.file_size.ensures.0 ∙ ap file_size c.head_for-head.ensures)
 
 pub head_for-head-requires : goal.head_for-head-requires
-head_for-head-requires c = omega (arith, headed _ c.requires)
+head_for-head-requires c = omega (arith, headed _ c.args.message.now.headed)

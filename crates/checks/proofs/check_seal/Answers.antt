@@ -7,7 +7,7 @@ use Rattle.checks.proofs.check_seal.Goals as goal
 
 pub block_at-requires : goal.block_at-requires
 unfolding keys_in slot
-block_at-requires c = omega (arith, keys_long _ c.requires.keys_value.0)
+block_at-requires c = omega (arith, keys_long _ c.requires)
 
 pub returns : goal.returns
 unfolding keys_in slot

@@ -5,7 +5,4 @@ use Rattle.cyclic.proofs.put_steps.Given as goal
 
 abbrev pub invariant-loop-k : goal.invariant-loop-k
 invariant-loop-k l =
-    (1 ≤ l.k) × (l.k - 1 ≤ l.n - 1) × (length l.out ≡ length l.initial.out) × Front (back l.h) l.initial.out (l.k - 1) l.out l.at
-
-abbrev pub decreases-loop-k : goal.decreases-loop-k
-decreases-loop-k l = l.n - l.k
+    (l.k - 1 ≤ l.n - 1) × (length l.out ≡ length l.initial.out) × Front (back l.h) l.initial.out (l.k - 1) l.out l.at

@@ -1,32 +1,42 @@
 -- Each turn takes one row (Picking).
-use Rattle.fips197.proofs.Kit.{not, arith}
-use Rattle.incidence.proofs.Counting.{bit-most}
+use Rattle.std.specs.Prelude.{◌+◌}
+use Rattle.fips197.proofs.Kit.{arith, sym, ◌∙◌, length}
 use Rattle.sizes.specs.Sizes.{family_of}
 use Rattle.decoding.specs.Decoding.{agrees_in}
-use Rattle.decoding.proofs.Picking.{compared_first, compared_few, compared_next, compared_done}
+use Rattle.decoding.proofs.Picking.{Compared, compared_first, compared_few, compared_agrees, compared_other, compared_done}
 use Rattle.decoding.proofs.clear_agreeing.Goals as goal
+use Rattle.decoding.proofs.clear_agreeing.Goals.{then-not-take_row, else-not-take_row}
 
 pub loop-row-init : goal.loop-row-init
-loop-row-init c =
-    let a = c.args in
-    (omega arith, omega arith, compared_first (family_of a.code) (agrees_in a.d.now) _ _)
-
-pub take_row-others-requires : goal.take_row-others-requires
-take_row-others-requires c =
-    record {
-      n_bound = (c.requires.n_bound.0, omega (arith, c.requires.n_bound.1, c.loop-row.invariant.2.items.size));
-      le_row = (c.loop-row.invariant.0, omega (arith, c.loop-row-test.true, c.requires.i_in_bounds));
-    }
+loop-row-init c = (omega arith, compared_first (family_of c.args.code) (agrees_in c.args.d.now) _ _)
 
 pub overflow_add-others : goal.overflow_add-others
-overflow_add-others c =
-    omega (arith, compared_few c.loop-row.invariant.0 c.loop-row.invariant.2, c.take_row-others.ensures.counted, bit-most (not (agrees_in c.args.d.now c.loop-row.row)))
+overflow_add-others c = omega (arith, compared_few (omega arith) c.loop-row.invariant.1)
 
 pub loop-row-preserved : goal.loop-row-preserved
 loop-row-preserved c =
-    (omega arith, omega (arith, c.loop-row-test.true), compared_next c.loop-row.invariant.0 c.loop-row.invariant.2 _ _ c.take_row-others.ensures.cleared c.take_row-others.ensures.counted)
+    let C = c.loop-row.invariant.1 in (
+      omega arith,
+      elim c.if-not-take_row.branch [
+        | then-not-take_row w ↦ rw w.others-is (compared_other (omega arith) C c.take_row.ensures.cleared (sym c.take_row.ensures.agrees ∙ w.if-not-take_row.true))
+        | else-not-take_row w ↦ rw w.others-is (compared_agrees (omega arith) C c.take_row.ensures.cleared (sym c.take_row.ensures.agrees ∙ w.if-not-take_row.false))
+      ],
+    )
+
+-- after the last row
+pub returns-after-not-take_row : goal.returns-after-not-take_row
+returns-after-not-take_row c =
+    let a = c.args in
+    let C = c.loop-row.invariant.1 in
+    let next : Compared (family_of a.code) (agrees_in a.d.now) (length a.marks.now) a.marks.now c.take_row.new.marks c.if-not-take_row.others (c.loop-row.row + 1)
+    = elim c.if-not-take_row.branch [
+      | then-not-take_row w ↦ rw w.others-is (compared_other (omega arith) C c.take_row.ensures.cleared (sym c.take_row.ensures.agrees ∙ w.if-not-take_row.true))
+      | else-not-take_row w ↦ rw w.others-is (compared_agrees (omega arith) C c.take_row.ensures.cleared (sym c.take_row.ensures.agrees ∙ w.if-not-take_row.false))
+    ] in
+    let r = compared_done (omega arith) next a.i (omega arith) in
+    record { cleared = r.0; rows = r.1 }
 
 pub returns : goal.returns
 returns c =
-    let r = compared_done c.loop-row.invariant.0 c.loop-row.invariant.2 _ (omega (arith, c.loop-row-test.false)) in
+    let r = compared_done (omega arith) c.loop-row.invariant.1 c.args.i (omega (arith, c.loop-row.invariant.0)) in
     record { cleared = r.0; rows = r.1 }

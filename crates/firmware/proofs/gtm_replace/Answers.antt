@@ -5,4 +5,4 @@ use Rattle.firmware.proofs.gtm_replace.Goals as goal
 
 pub returns : goal.returns
 returns c =
-    record { says = c.pack.ensures ∙ ap packed c.replace.ensures.refused; written = c.replace.ensures.written }
+    record { says = c.pack_done.ensures ∙ ap packed c.replace.ensures.refused; written = c.replace.ensures.written }

@@ -5,4 +5,4 @@ use Rattle.firmware.proofs.gtm_tag.Goals as goal
 
 pub returns : goal.returns
 returns c =
-    record { says = c.pack.ensures ∙ ap packed c.tag.ensures.refused; written = c.tag.ensures.written }
+    record { says = c.pack_done.ensures ∙ ap packed c.tag.ensures.refused; written = c.tag.ensures.written }

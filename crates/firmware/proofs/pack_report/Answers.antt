@@ -1,31 +1,43 @@
--- Refused, or answer and numbers (Packing).
-use Rattle.std.specs.Prelude.{◌+◌, ◌*◌, ◌%◌}
-use Rattle.fips197.proofs.Kit.{sym, ap, ◌∙◌, ℕ, arith}
-use Rattle.firmware.specs.Packed.{number_in}
+-- Answer and numbers, or refused (Packing).
+use Rattle.std.specs.Prelude.{◌≡◌, ◌+◌, ◌*◌, ◌%◌, Result, IfOk}
+use Rattle.fips197.proofs.Kit.{refl, sym, ap, ◌∙◌, subst, ℕ, arith}
+use Rattle.incidence.specs.Report.{meaning}
+use Rattle.incidence.specs.declared.Answer.{Answer}
+use Rattle.decoding.specs.declared.Decoded.{Decoded}
+use Rattle.files.specs.declared.refusals.Refused.{Refused}
+use Rattle.files.specs.Refusals.{told}
+use Rattle.files.proofs.Passing.{number-low, number-high}
+use Rattle.firmware.specs.Packed.{packed_report, number_in}
 use Rattle.firmware.proofs.Packing.{number_back, report_done, report_refused, ordinal_small}
 use Rattle.firmware.proofs.pack_report.Goals as goal
 
-pub returns-then-refused-ne0 : goal.returns-then-refused-ne0
-returns-then-refused-ne0 c =
-    let t = c.if-refused-ne0.true in
-    record {
-      packed = c.pack.ensures ∙ report_refused c.args.r.refused c.args.r.answer c.args.r.named c.args.r.rows t;
-      passes = λ z. sym (number_back c.args.r.refused (omega (arith, c.struct_known-1.given))) ∙ ap number_in (sym c.pack.ensures) ∙ z;
-    }
+abbrev Packs : ℕ → Answer → ℕ → ℕ → Result Decoded Refused → Type 0
+Packs w a n m r = IfOk r (λ x. x.answer ≡ a) → IfOk r (λ x. x.named ≡ n) → IfOk r (λ x. x.rows ≡ m) → w ≡ packed_report (told r) a n m
+
+abbrev Passes : ℕ → Result Decoded Refused → Type 0
+Passes w r = number_in w ≡ 0 → (told r).number ≡ 0
 
 pub overflow_mul-result : goal.overflow_mul-result
-overflow_mul-result c = omega (arith, c.ordinal.ensures, ordinal_small c.args.r.answer)
+overflow_mul-result c = omega (arith, c.ordinal.ensures, ordinal_small c.in-Ok.found.answer)
 
 pub overflow_add-result : goal.overflow_add-result
-overflow_add-result c = omega (arith, c.ordinal.ensures, ordinal_small c.args.r.answer)
+overflow_add-result c = omega (arith, c.ordinal.ensures, ordinal_small c.in-Ok.found.answer)
 
-pub overflow_add-result-2 : goal.overflow_add-result-2
-overflow_add-result-2 c = omega (arith, c.ordinal.ensures, ordinal_small c.args.r.answer)
-
-pub returns : goal.returns
-returns c =
-    let r = c.args.r in
+pub returns-in-Ok : goal.returns-in-Ok
+returns-in-Ok c =
+    let x = c.in-Ok.found in
     record {
-      packed = ap (λ (x : ℕ). 256 * x + 65536 * (r.named % 65536) + 4294967296 * (r.rows % 65536)) c.ordinal.ensures ∙ report_done r.refused r.answer r.named r.rows c.if-refused-ne0.false;
-      passes = λ z. c.if-refused-ne0.false;
+      packed = λ a n m. subst (Packs _ a n m) (sym c.in-Ok.is) (λ ea en em.
+          ap (λ (k : ℕ). 256 * k + 65536 * (x.named % 65536) + 4294967296 * (x.rows % 65536)) c.ordinal.ensures
+          ∙ (λ i. 256 * (meaning (ea i)).ordinal + 65536 * (en i % 65536) + 4294967296 * (em i % 65536)) ∙ report_done _ a n m refl);
+      passes = subst (Passes _) (sym c.in-Ok.is) (λ z. refl);
+    }
+
+pub returns-in-Err : goal.returns-in-Err
+returns-in-Err c =
+    let d = c.in-Err.refused in
+    record {
+      packed = λ a n m. subst (Packs _ a n m) (sym c.in-Err.is) (λ ea en em.
+          c.pack.ensures ∙ report_refused _ a n m (λ z. let l = number-low d.reason in absurd (omega arith)));
+      passes = subst (Passes _) (sym c.in-Err.is) (λ z. sym (number_back _ (number-high d.reason)) ∙ ap number_in (sym c.pack.ensures) ∙ z);
     }

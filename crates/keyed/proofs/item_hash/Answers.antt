@@ -1,8 +1,7 @@
 -- Zeros for a vacant place; any other item is laid out behind its numbers.
-use Rattle.std.specs.Prelude.{◌≡◌, ◌++◌, ◌+◌}
-use Rattle.fips197.proofs.Kit.{refl, sym, ap, ◌∙◌, arith, length, take, take_at, rules}
+use Rattle.std.specs.Prelude.{◌++◌, ◌+◌}
+use Rattle.fips197.proofs.Kit.{refl, sym, ap, ◌∙◌, length, take, take_at, rules}
 use Rattle.blocks.specs.Number.{big_endian}
-use Rattle.blocks.proofs.Loop.{front_kept}
 use Rattle.cipher.specs.Cmac.{mac_with}
 use Rattle.keyed.proofs.KeyedLaws.{hash_vacant, hash_filled, numbered_length}
 use Rattle.keyed.proofs.item_hash.Goals as goal
@@ -13,17 +12,6 @@ returns-then-vacant c =
     record {
       hash = sym (hash_vacant (mac_with d.k) d.stamp d.j d.item.now (sym c.vacant.ensures ∙ c.if-vacant.true));
       room = refl;
-    }
-
-pub mac_in_place-requires : goal.mac_in_place-requires
-mac_in_place-requires c =
-    let kept : length c.put_numbered.new.out ≡ length c.args.room.now =
-    let a = c.args in
-    front_kept ((big_endian 4 a.stamp.number ++ big_endian 4 a.j) ++ a.item.now) a.room.now _ (8 + length a.item.now)
-    (numbered_length a.stamp.number a.j a.item.now) (omega (arith, c.requires.item_len_bound.0, c.requires.item_len_bound.1)) c.put_numbered.ensures in
-    record {
-      engine_tables = c.requires.engine_tables;
-      n_in_bounds = omega (arith, kept, c.requires.item_len_bound.0, c.requires.item_len_bound.1);
     }
 
 pub returns : goal.returns

@@ -1,20 +1,9 @@
 -- The numbers at the front, and the item behind them (blocks' Loop).
 use Rattle.std.specs.Prelude.{◌≡◌, ◌++◌, ◌+◌}
 use Rattle.fips197.proofs.Kit.{ap, ◌∙◌, List, ℕ, arith, length, drop, rules}
-use Rattle.blocks.proofs.Loop.{front_kept, put_behind}
+use Rattle.blocks.proofs.Loop.{put_behind}
 use Rattle.blocks.proofs.Numbers.{big_endian_pair}
 use Rattle.keyed.proofs.put_numbered.Goals as goal
-
-pub put_bytes-requires-2 : goal.put_bytes-requires-2
-put_bytes-requires-2 c =
-    let numbers-long : length c.to_be64-numbers.result ≡ 8 = search rules in
-    let front : c.put_bytes.new.out ≡ c.to_be64-numbers.result ++ drop 8 c.args.out.now =
-    let e : 0 + length c.to_be64-numbers.result ≡ 8 = omega (arith, numbers-long) in
-    c.put_bytes.ensures ∙ ap (λ (k : ℕ). c.to_be64-numbers.result ++ drop k c.args.out.now) e in
-    let kept : length c.put_bytes.new.out ≡ length c.args.out.now =
-    let o = c.args.out.now in
-    front_kept c.to_be64-numbers.result o _ 8 numbers-long (omega (arith, c.requires)) front in
-    omega (arith, kept, c.requires)
 
 pub returns : goal.returns
 returns c =

@@ -18,8 +18,8 @@ pub version_of-requires : goal.version_of-requires
 version_of-requires c =
     version-at c.args.file.now c.args.n c.args.item.now c.requires.0 c.requires.1
 
-pub put-requires : goal.put-requires
-put-requires c =
+pub put_bytes-requires : goal.put_bytes-requires
+put_bytes-requires c =
     let place : c.front_size.result ≡ front_size (version_of (take c.args.n c.args.file.now)) =
     place_read c.args.file.now c.args.n c.args.item.now c.requires.0 c.requires.1 _ _ c.version_of.ensures c.front_size.ensures.0 in
     omega (arith, place-high c.args.file.now c.args.n c.args.item.now c.requires.0 c.requires.1 _ place)
@@ -31,8 +31,8 @@ returns c =
     let f = c.args.file.now in
     let n = c.args.n in
     let item = c.args.item.now in
-    item_put f n item c.requires.0 c.requires.1 c.put.new.out c.put-2.new.out c.put-3.new.out c.to_be16-count.result c.to_be16-long.result
+    item_put f n item c.requires.0 c.requires.1 c.put_bytes.new.out c.put_bytes-2.new.out c.put_bytes-3.new.out c.to_be16-count.result c.to_be16-long.result
     c.front_size.result
     (c.to_be16-count.ensures ∙ ap (λ (k : ℕ). big_endian 2 (k + 1)) (c.item_count.ensures.0 ∙ count_read f n item c.requires.0 c.requires.1))
     c.to_be16-long.ensures place
-    c.put.ensures c.put-2.ensures c.put-3.ensures
+    c.put_bytes.ensures c.put_bytes-2.ensures c.put_bytes-3.ensures

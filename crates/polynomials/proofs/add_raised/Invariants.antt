@@ -1,4 +1,4 @@
-use Rattle.std.specs.Prelude.{◌≡◌, ◌-◌, ◌≤◌}
+use Rattle.std.specs.Prelude.{◌≡◌}
 use Rattle.fips197.proofs.Kit.{length}
 use Rattle.blocks.specs.Block.{◌⊕◌}
 use Rattle.blocks.proofs.Loop.{part}
@@ -6,7 +6,4 @@ use Rattle.polynomials.specs.Polynomial.{raised}
 use Rattle.polynomials.proofs.add_raised.Given as goal
 
 abbrev pub invariant-loop-i : goal.invariant-loop-i
-invariant-loop-i l = (l.k ≤ l.i) × (l.i ≤ length l.initial.p) × (length l.p ≡ length l.initial.p) × (l.p ≡ part l.i (l.initial.p ⊕ raised l.k l.q) l.initial.p)
-
-abbrev pub decreases-loop-i : goal.decreases-loop-i
-decreases-loop-i l = length l.initial.p - l.i
+invariant-loop-i l = (length l.p ≡ length l.initial.p) × (l.p ≡ part l.i (l.initial.p ⊕ raised l.k l.q) l.initial.p)

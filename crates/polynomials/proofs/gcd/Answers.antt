@@ -8,15 +8,11 @@ pub overflow_add-most : goal.overflow_add-most
 overflow_add-most c =
     omega (arith, sizes_few _ _ _ _ c.size.ensures c.size-2.ensures c.requires.0 c.requires.1)
 
-pub loop-i-init : goal.loop-i-init
-loop-i-init c = search (rules, gcd-begun)
+pub loop-step-init : goal.loop-step-init
+loop-step-init c = search (rules, gcd-begun)
 
-pub overflow_add-i : goal.overflow_add-i
-overflow_add-i c =
-    omega (arith, sizes_few _ _ _ _ c.size.ensures c.size-2.ensures c.requires.0 c.requires.1)
-
-pub loop-i-preserved : goal.loop-i-preserved
-loop-i-preserved c = search (rules, gcd-next)
+pub loop-step-preserved : goal.loop-step-preserved
+loop-step-preserved c = search (rules, gcd-next)
 
 pub returns : goal.returns
 returns c = search (rules, gcd_done)

@@ -1,17 +1,10 @@
--- What is kept is the size of the coefficients passed (Sizes).
-use Rattle.fips197.proofs.Kit.{◌∙◌, rules}
-use Rattle.polynomials.specs.Polynomial.{poly_size}
-use Rattle.polynomials.proofs.Sizes.{size-one, size_other, size-whole}
+-- The last 1, or none (Sizes).
+use Rattle.fips197.proofs.Kit.{rules}
+use Rattle.polynomials.proofs.Sizes.{size-zero, size_last}
 use Rattle.polynomials.proofs.size.Goals as goal
-use Rattle.polynomials.proofs.size.Goals.{then-p-i-eq1, else-p-i-eq1}
 
-pub loop-i-init : goal.loop-i-init
-unfolding poly_size
-loop-i-init c = search rules
+pub returns-in-Some : goal.returns-in-Some
+returns-in-Some c = size_last c.args.p.now c.in-Some.last (search rules) (search rules) (search rules)
 
-pub loop-i-preserved : goal.loop-i-preserved
-loop-i-preserved c =
-    (search rules, elim c.if-p-i-eq1.branch [ then-p-i-eq1 w ↦ w.n-is ∙ search (rules, size-one) | else-p-i-eq1 w ↦ w.n-is ∙ search (rules, size_other) ])
-
-pub returns : goal.returns
-returns c = search (rules, size-whole)
+pub returns-in-None : goal.returns-in-None
+returns-in-None c = size-zero c.args.p.now (search rules)

@@ -1,38 +1,48 @@
 -- Refused or done, what is put is the text (Texts).
 use Rattle.std.specs.Prelude.{◌≡◌}
-use Rattle.fips197.proofs.Kit.{ap, ◌∙◌, List, ℕ, arith, length, rules}
-use Rattle.printing.specs.Text.{over}
-use Rattle.printing.proofs.Putting.{put_as, put_front}
+use Rattle.files.proofs.Passing.{number-low}
+use Rattle.fips197.proofs.Kit.{refl, ◌∙◌, arith, length, length-take, rules}
+use Rattle.printing.proofs.Behind.{put_as}
 use Rattle.checks.proofs.Checking.{reportable}
-use Rattle.reporting.proofs.Texts.{report_refused, report_done}
+use Rattle.reporting.proofs.Texts.{report_refused, report_done, report_front}
 use Rattle.reporting.proofs.put_report.Goals as goal
 
-pub returns-then-refused-ne0 : goal.returns-then-refused-ne0
-returns-then-refused-ne0 c =
-    let a = c.args in
-    let r = put_front _ _ _ _ (put_as _ _ _ _ _ _ (report_refused (a.keys.now) a.code a.n (a.s.now) (a.file.now) c.report-found.result.refused c.report-found.ensures.refused c.if-refused-ne0.true) (c.put_refused.ensures.written, c.put_refused.ensures.behind)) in
-    record { written = r.0; behind = r.1 }
-
 pub item_count-k-requires : goal.item_count-k-requires
-item_count-k-requires c =
+item_count-k-requires g c =
     let a = c.args in
-    let R = reportable (a.keys.now) (a.s.now) (a.file.now) 273 c.report-found.result.refused c.report-found.ensures.refused c.if-refused-ne0.false in
+    let R = reportable (a.keys.now) (a.s.now) (a.file.now) 273 _ c.in-Ok.ensures.refused refl in
     R.files.message.long
 
-pub put_report-requires : goal.put_report-requires
-put_report-requires c =
+pub slice_bounds-marks-end : goal.slice_bounds-marks-end
+slice_bounds-marks-end g c =
     let a = c.args in
-    let R = reportable (a.keys.now) (a.s.now) (a.file.now) 273 c.report-found.result.refused c.report-found.ensures.refused c.if-refused-ne0.false in
-    let few = R.fits in
-    let long : length c.report-found.new.marks ≡ 273 = search rules in
-    (omega arith, omega (arith, few, c.item_count-k.ensures.0), omega (arith, few, c.item_count-k.ensures.0, long))
+    let R = reportable (a.keys.now) (a.s.now) (a.file.now) 273 _ c.in-Ok.ensures.refused refl in
+    let long : length c.report.new.marks ≡ 273 = search rules in
+    omega (arith, R.fits, c.item_count-k.ensures.0, long)
 
-pub returns : goal.returns
-returns c =
+pub slice_bounds-put_report-end : goal.slice_bounds-put_report-end
+slice_bounds-put_report-end g c =
     let a = c.args in
-    let e = c.report-found.ensures in
-    let w = report_done (a.keys.now) a.code a.n (a.s.now) (a.file.now) c.report-found.result.refused c.report-found.ensures.refused c.if-refused-ne0.false _ _ _ _ _ e.answer e.named e.rows e.written c.item_count-k.ensures.0 in
-    record {
-      written = c.put_report.ensures.written ∙ ap (λ (t : List ℕ). over 0 t (a.out.now)) w;
-      behind = c.put_report.ensures.behind ∙ ap length w;
-    }
+    let R = reportable (a.keys.now) (a.s.now) (a.file.now) 273 _ c.in-Ok.ensures.refused refl in
+    let long : length c.report.new.marks ≡ 273 = search rules in
+    simp length-take (omega (arith, R.fits, c.item_count-k.ensures.0, long))
+
+pub put_report-requires : goal.put_report-requires
+put_report-requires g c =
+    let long : length c.report.new.marks ≡ 273 = search rules in
+    (search rules, simp length-take (omega (arith, long)))
+
+pub returns-in-Err : goal.returns-in-Err
+returns-in-Err g c =
+    let a = c.args in
+    put_as _ _ _ _ (report_refused (a.keys.now) a.code a.n (a.s.now) (a.file.now) _ c.in-Err.ensures.refused (λ z. let l = number-low c.in-Err.refused.reason in absurd (omega arith))) c.put_refused.ensures.written
+
+pub returns-in-Ok : goal.returns-in-Ok
+returns-in-Ok g c =
+    let a = c.args in
+    let e = c.in-Ok.ensures in
+    let R = reportable (a.keys.now) (a.s.now) (a.file.now) 273 _ e.refused refl in
+    let long : length c.report.new.marks ≡ 273 = search rules in
+    put_as _ _ _ _
+    (report_front a.code a.n _ _ _ c.report.new.marks c.item_count-k.result (omega (arith, R.fits, c.item_count-k.ensures.0, long))
+    ∙ report_done (a.keys.now) a.code a.n (a.s.now) (a.file.now) _ e.refused refl _ _ _ _ _ e.answer e.named e.rows e.written c.item_count-k.ensures.0) c.put_report.ensures.written

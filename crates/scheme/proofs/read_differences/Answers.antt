@@ -1,11 +1,10 @@
 -- The sums of the file's tags, and the message's added (Filing).
 use Rattle.std.specs.Prelude.{◌≡◌}
 use Rattle.fips197.proofs.Kit.{ap, ◌∙◌, ℕ, arith}
-use Rattle.sizes.specs.Sizes.{known, family_of}
+use Rattle.sizes.specs.Sizes.{family_of}
 use Rattle.stamp.specs.Front.{version_of, stamp_of}
 use Rattle.files.specs.declared.tagfile.Head.{Head}
 use Rattle.files.specs.TagFile.{code_of, head_of}
-use Rattle.checks.proofs.Checking.{file-code}
 use Rattle.scheme.specs.Calls.{stamp_in}
 use Rattle.scheme.proofs.Filing.{differences-made}
 use Rattle.scheme.proofs.read_differences.Goals as goal
@@ -13,7 +12,6 @@ use Rattle.scheme.proofs.read_differences.Goals as goal
 pub read_sums-requires : goal.read_sums-requires
 read_sums-requires c =
     record {
-      engine_tables = c.requires.engine_tables;
       formed = c.requires.formed;
       f_in_bounds = c.requires.f_in_bounds;
     }
@@ -23,8 +21,6 @@ unfolding head_of
 add_items-requires c =
     let code_is : c.head_of-head.result.code ≡ code_of c.args.f.now = ap (λ (h : Head). h.code) c.head_of-head.ensures.0 in
     record {
-      engine_tables = c.requires.engine_tables;
-      code_value = ap known code_is ∙ file-code _ c.requires.formed;
       s_in_bounds = (c.requires.sound.long, c.requires.sound.short, c.requires.sound.whole);
       code_in_bounds = omega (arith, c.read_sums.ensures.size, c.requires.f_in_bounds, ap (λ (x : ℕ). (family_of x).tags) code_is);
     }

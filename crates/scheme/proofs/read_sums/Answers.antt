@@ -16,10 +16,7 @@ write_sums-requires c =
     c.tags-n.ensures ∙ ap (λ (h : Head). (family_of h.code).tags) c.head_of-head.ensures.0 in
     let tags-read : length c.tags_in.result.now ≡ 16 * c.tags-n.result =
     ap length c.tags_in.ensures ∙ tags-long c.args.f.now c.requires.formed ∙ ap (λ (n : ℕ). 16 * n) (sym tags-are) in
-    record {
-      engine_tables = c.requires.engine_tables;
-      n_in_bounds = (omega (arith, tags-read), omega (arith, tags-are, c.requires.f_in_bounds));
-    }
+    (omega (arith, tags-read), omega (arith, tags-are, c.requires.f_in_bounds))
 
 pub returns : goal.returns
 unfolding sum_tagged head_of

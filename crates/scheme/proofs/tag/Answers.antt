@@ -1,24 +1,17 @@
 -- Refused, or the file (Filing).
-use Rattle.fips197.proofs.Kit.{◌∙◌}
+use Rattle.fips197.proofs.Kit.{refl, ◌∙◌, rules}
 use Rattle.scheme.specs.Calls.{tag_writes}
 use Rattle.checks.proofs.Checking.{taggable}
-use Rattle.files.proofs.Passing.{given, kept}
+use Rattle.files.proofs.Passing.{given_told, kept_told}
 use Rattle.scheme.proofs.tag.Goals as goal
 
-pub returns-then-refusal-ne0 : goal.returns-then-refusal-ne0
+pub returns-in_err-tag_refusal : goal.returns-in_err-tag_refusal
 unfolding tag_writes
-returns-then-refusal-ne0 c = record {
-  refused = c.tag_refusal-refusal.ensures;
-  written = kept _ _ c.tag_refusal-refusal.ensures _ _ c.if-refusal-ne0.true;
-}
+returns-in_err-tag_refusal c = record { refused = search rules; written = kept_told _ _ _ _ c.in_err-tag_refusal.ensures }
 
 pub write_tag_file-requires : goal.write_tag_file-requires
-write_tag_file-requires c = taggable _ _ _ _ _ c.tag_refusal-refusal.ensures c.if-refusal-ne0.false
+write_tag_file-requires c = taggable _ _ _ _ _ c.in_ok-tag_refusal.ensures refl
 
 pub returns : goal.returns
 unfolding tag_writes
-returns c =
-    record {
-      refused = c.tag_refusal-refusal.ensures;
-      written = c.write_tag_file.ensures ∙ given _ _ c.tag_refusal-refusal.ensures _ _ c.if-refusal-ne0.false;
-    }
+returns c = record { refused = c.in_ok-tag_refusal.ensures; written = c.write_tag_file.ensures ∙ given_told _ _ _ c.in_ok-tag_refusal.ensures }

@@ -2,13 +2,12 @@
 use Rattle.std.specs.Prelude.{◌≡◌, ◌*◌, ◌≤◌}
 use Rattle.fips197.proofs.Kit.{refl, ap, ap₂, ◌∙◌, arith, length}
 use Rattle.blocks.specs.Block.{same, zeros}
-use Rattle.sizes.specs.Sizes.{known, family_of}
+use Rattle.sizes.specs.Sizes.{family_of}
 use Rattle.sizes.proofs.Laws.{tags_few}
 use Rattle.stamp.specs.Front.{version_of, stamp_of}
 use Rattle.files.specs.declared.tagfile.Head.{Head}
 use Rattle.files.specs.TagFile.{code_of, head_of}
 use Rattle.files.specs.Message.{item_count, item}
-use Rattle.checks.proofs.Checking.{file-code}
 use Rattle.keyed.proofs.KeyedLaws.{tags-expanded}
 use Rattle.tagging.specs.Tagging.{tag_sum}
 use Rattle.tagging.proofs.Summing.{zero_sums, summed_zeros, tag_sum-length}
@@ -24,8 +23,6 @@ add_items-requires c =
     let code_is : c.head_of-head.result.code ≡ code_of c.args.f.now = ap (λ (h : Head). h.code) c.head_of-head.ensures.0 in
     let few : 16 * c.tags-n.result ≤ 1312 = omega (arith, c.tags-n.ensures, tags_few c.head_of-head.result.code) in
     record {
-      engine_tables = c.requires.engine_tables;
-      code_value = ap known code_is ∙ file-code _ c.requires.comparable.file;
       s_in_bounds = (c.requires.comparable.message.long, c.requires.comparable.message.short, c.requires.comparable.message.whole);
       code_in_bounds = omega (arith, few, c.tags-n.ensures);
     }
@@ -33,10 +30,7 @@ add_items-requires c =
 pub write_tags-requires : goal.write_tags-requires
 write_tags-requires c =
     let few : 16 * c.tags-n.result ≤ 1312 = omega (arith, c.tags-n.ensures, tags_few c.head_of-head.result.code) in
-    record {
-      engine_tables = c.requires.engine_tables;
-      n_in_bounds = (omega (arith, few, c.add_items.ensures.size), few);
-    }
+    (omega (arith, few, c.add_items.ensures.size), few)
 
 pub slice_bounds-eq-end : goal.slice_bounds-eq-end
 slice_bounds-eq-end c =

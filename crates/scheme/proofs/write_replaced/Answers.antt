@@ -18,7 +18,6 @@ read_sums-requires c =
     let few : 16 * (family_of c.head_of-head.result.code).tags ≤ 1312 =
     omega (arith, tags_few c.head_of-head.result.code) in
     record {
-      engine_tables = c.requires.engine_tables;
       formed = c.requires.replaceable.file;
       f_in_bounds = omega (arith, few, ap (λ (x : ℕ). (family_of x).tags) code_is);
     }
@@ -27,12 +26,9 @@ pub add_item-requires : goal.add_item-requires
 unfolding head_of
 add_item-requires c =
     let code_is : c.head_of-head.result.code ≡ code_of c.args.f.now = ap (λ (h : Head). h.code) c.head_of-head.ensures.0 in
-    let code-known : known c.head_of-head.result.code ≡ true = ap known code_is ∙ file-code _ c.requires.replaceable.file in
     let few : 16 * (family_of c.head_of-head.result.code).tags ≤ 1312 =
     omega (arith, tags_few c.head_of-head.result.code) in
     record {
-      engine_tables = c.requires.engine_tables;
-      code_value = code-known;
       code_in_bounds = omega (arith, few, c.read_sums.ensures.size);
       item_len_bound = (c.requires.replaceable.short_old, search rules);
     }
@@ -41,12 +37,9 @@ pub add_item-requires-2 : goal.add_item-requires-2
 unfolding head_of
 add_item-requires-2 c =
     let code_is : c.head_of-head.result.code ≡ code_of c.args.f.now = ap (λ (h : Head). h.code) c.head_of-head.ensures.0 in
-    let code-known : known c.head_of-head.result.code ≡ true = ap known code_is ∙ file-code _ c.requires.replaceable.file in
     let few : 16 * (family_of c.head_of-head.result.code).tags ≤ 1312 =
     omega (arith, tags_few c.head_of-head.result.code) in
     record {
-      engine_tables = c.requires.engine_tables;
-      code_value = code-known;
       code_in_bounds = omega (arith, few, c.read_sums.ensures.size, c.add_item.ensures.added.size);
       item_len_bound = (omega (arith, c.requires.replaceable.short_old, c.requires.replaceable.short_new), search rules);
     }
@@ -61,7 +54,6 @@ write_file-requires c =
     let few : 16 * (family_of c.head_of-head.result.code).tags ≤ 1312 =
     omega (arith, tags_few c.head_of-head.result.code) in
     record {
-      engine_tables = c.requires.engine_tables;
       code_value = code-known;
       count_bound = omega (arith, count-is, file-count _ c.requires.replaceable.file, ap (λ (x : ℕ). (family_of x).items) code_is);
       code_in_bounds = (omega (arith, few, c.read_sums.ensures.size, c.add_item.ensures.added.size, c.add_item-2.ensures.added.size), omega (arith, c.requires.replaceable.fits, ap file_size c.head_of-head.ensures.0));

@@ -15,13 +15,10 @@ pub add_items-requires : goal.add_items-requires
 unfolding tag_head
 add_items-requires c =
     let code_is : c.head_for-head.result.code ≡ c.args.code = ap (λ (h : Head). h.code) c.head_for-head.ensures in
-    let code-known : known c.head_for-head.result.code ≡ true = ap known code_is ∙ c.requires.code in
     let few : 16 * (family_of c.head_for-head.result.code).tags ≤ 1312 =
     omega (arith, tags_few c.head_for-head.result.code) in
     let m = c.requires.message in
     record {
-      engine_tables = c.tables-t.ensures;
-      code_value = code-known;
       s_in_bounds = (m.long, m.short, m.whole);
       code_in_bounds = few;
     }
@@ -36,7 +33,6 @@ write_file-requires c =
     let few : 16 * (family_of c.head_for-head.result.code).tags ≤ 1312 =
     omega (arith, tags_few c.head_for-head.result.code) in
     record {
-      engine_tables = c.tables-t.ensures;
       code_value = code-known;
       count_bound = omega (arith, count-is, c.requires.high, ap (λ (x : ℕ). (family_of x).items) code_is);
       code_in_bounds = (omega (arith, few, c.add_items.ensures.size), omega (arith, c.requires.fits, ap file_size c.head_for-head.ensures));

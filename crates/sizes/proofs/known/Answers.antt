@@ -5,8 +5,8 @@ use Rattle.sizes.proofs.known.Goals as goal
 
 pub returns-then-inside : goal.returns-then-inside
 unfolding plane_code known
-returns-then-inside c = rw (sym c.inside.ensures ∙ c.if-inside.true)
+returns-then-inside c = rw (c.if-inside.true, sym c.inside.ensures ∙ c.if-inside.true)
 
-pub returns : goal.returns
+pub returns-else-inside : goal.returns-else-inside
 unfolding plane_code known
-returns c = rw (sym c.inside.ensures ∙ c.if-inside.false) c.is_affine.ensures
+returns-else-inside c = rw (sym c.inside.ensures ∙ c.if-inside.false) (c.is_some.ensures ∙ c.affine_of.ensures.whether)

@@ -1,4 +1,4 @@
-use Rattle.std.specs.Prelude.{◌≡◌, ◌-◌, ◌≤◌}
+use Rattle.std.specs.Prelude.{◌≡◌}
 use Rattle.fips197.proofs.Kit.{length}
 use Rattle.sizes.specs.Sizes.{family_of}
 use Rattle.files.specs.Message.{behind, item}
@@ -7,10 +7,7 @@ use Rattle.keyed.specs.Keyed.{item_hash_by}
 use Rattle.tagging.proofs.Summing.{Summed}
 use Rattle.tagging.proofs.add_items.Given as goal
 
-abbrev pub invariant-loop-c : goal.invariant-loop-c
-invariant-loop-c l =
-    (l.c.passed ≤ l.n) × (l.c.at ≡ behind l.s l.c.passed) × (length l.sums ≡ length l.initial.sums) × (length l.room ≡ 1040)
-    × Summed (family_of l.code) (λ j. item_hash_by (mac_with l.k) l.stamp j (item l.s j)) l.c.passed l.initial.sums l.sums
-
-abbrev pub decreases-loop-c : goal.decreases-loop-c
-decreases-loop-c l = l.n - l.c.passed
+abbrev pub invariant-loop-i : goal.invariant-loop-i
+invariant-loop-i l =
+    (l.at ≡ behind l.s l.i) × (length l.sums ≡ length l.initial.sums) × (length l.room ≡ 1040)
+    × Summed (family_of l.code) (λ j. item_hash_by (mac_with l.k) l.stamp j (item l.s j)) l.i l.initial.sums l.sums

@@ -31,7 +31,7 @@ seal-requires c =
     (tags-expanded c.args.keys.tag _ _ _ _ _ c.expand.ensures c.write_tags.ensures) in
     let r : place + 16 * c.tags-n.result ≤ length c.put_header.new.out = omega (arith, behind) in
     let l = back_length c.put_header.new.out _ tags place _ r (tags-length _ _ _ key-long) written in
-    record { engine_tables = c.requires.engine_tables; n_in_bounds = omega (arith, l, behind) }
+    record { n_in_bounds = omega (arith, l, behind) }
 
 pub returns : goal.returns
 returns c =
@@ -77,10 +77,7 @@ write_tags-requires c =
     let headed : length c.put_header.new.out ≡ length c.args.out.now =
     headed_length c.args.head c.args.out.now _ (omega (arith, room, c.tags_at-at.ensures.0)) c.put_header.ensures in
     let behind : place + 16 * c.tags-n.result + 16 ≤ length c.put_header.new.out = omega (arith, room, headed) in
-    record {
-      engine_tables = search rules;
-      n_in_bounds = (search rules, simp (length-take, length-drop) (omega (arith, behind)));
-    }
+    (search rules, simp (length-take, length-drop) (omega (arith, behind)))
 
 pub overflow_mul-n : goal.overflow_mul-n
 overflow_mul-n c =

@@ -5,7 +5,7 @@ use Rattle.affine.proofs.table.entry.Goals as goal
 
 pub returns-then-k-t : goal.returns-then-k-t
 unfolding entry_of
-returns-then-k-t c = record { read = c.from_u8.ensures.same; byte = c.from_u8.ensures.byte }
+returns-then-k-t c = record { read = c.from.ensures; byte = omega arith }
 
 pub returns-else-k-t : goal.returns-else-k-t
 unfolding entry_of

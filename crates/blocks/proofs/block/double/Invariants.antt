@@ -1,10 +1,7 @@
-use Rattle.std.specs.Prelude.{◌≡◌, ◌-◌, ◌≤◌}
+use Rattle.std.specs.Prelude.{◌≡◌}
 use Rattle.blocks.proofs.Loop.{part}
 use Rattle.blocks.specs.Double.{double}
 use Rattle.blocks.proofs.block.double.Given as goal
 
 abbrev pub invariant-loop-i : goal.invariant-loop-i
-invariant-loop-i l = (l.i ≤ 15) × (l.r ≡ part l.i (double l.b) l.initial.r)
-
-abbrev pub decreases-loop-i : goal.decreases-loop-i
-decreases-loop-i l = 15 - l.i
+invariant-loop-i l = l.r ≡ part l.i (double l.b) l.initial.r

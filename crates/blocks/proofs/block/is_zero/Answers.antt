@@ -5,7 +5,7 @@ use Rattle.blocks.proofs.Zeros.{zero_more, zero_end}
 use Rattle.blocks.proofs.block.is_zero.Goals as goal
 
 pub loop-i-init : goal.loop-i-init
-loop-i-init c = (omega arith, refl)
+loop-i-init c = refl
 
 pub loop-i-preserved : goal.loop-i-preserved
 loop-i-preserved c =
@@ -13,11 +13,9 @@ loop-i-preserved c =
     let s = l.args.s.now in
     let at = l.args.at in
     let i = l.loop-i.i in
-    let n : length (take 16 (drop at s)) ≡ 16 = simp (length-take, length-drop) (omega arith) in (
-      omega arith,
-      l.loop-i.invariant.1
-          ∙ zero_more (take 16 (drop at s)) 16 i l.loop-i.any _ (omega arith) (omega arith) (sym (get_or-take 16 (drop at s) i 0 (omega arith) ∙ get_or-drop at s i 0)),
-    )
+    let n : length (take 16 (drop at s)) ≡ 16 = simp (length-take, length-drop) (omega arith) in
+    l.loop-i.invariant
+    ∙ zero_more (take 16 (drop at s)) 16 i l.loop-i.any _ (omega arith) (omega arith) (sym (get_or-take 16 (drop at s) i 0 (omega arith) ∙ get_or-drop at s i 0))
 
 pub returns : goal.returns
 returns c =
@@ -25,4 +23,4 @@ returns c =
     let s = l.args.s.now in
     let at = l.args.at in
     let n : length (take 16 (drop at s)) ≡ 16 = simp (length-take, length-drop) (omega arith) in
-    sym (l.loop-i.invariant.1 ∙ zero_end (take 16 (drop at s)) 16 l.loop-i.i l.loop-i.any (omega arith) (omega arith))
+    sym (l.loop-i.invariant ∙ zero_end (take 16 (drop at s)) 16 l.loop-i.i l.loop-i.any (omega arith) (omega arith))

@@ -1,8 +1,7 @@
--- As it is written.
-use Rattle.fips197.proofs.Kit.{refl}
-use Rattle.blocks.specs.Number.{big_endian}
+-- The library's bytes, the highest first (Numbers).
+use Rattle.fips197.proofs.Kit.{◌∙◌}
+use Rattle.blocks.proofs.Numbers.{high_first}
 use Rattle.blocks.proofs.block.to_be32.Goals as goal
 
 pub returns : goal.returns
-unfolding big_endian
-returns c = refl
+returns c = c.to_be_bytes.ensures ∙ high_first 4 c.args.n

@@ -1,10 +1,7 @@
-use Rattle.std.specs.Prelude.{◌≡◌, ◌-◌, ◌≤◌}
+use Rattle.std.specs.Prelude.{◌≡◌}
 use Rattle.blocks.proofs.Loop.{part}
 use Rattle.blocks.specs.Block.{◌⊕◌}
 use Rattle.blocks.proofs.block.xor.Given as goal
 
 abbrev pub invariant-loop-i : goal.invariant-loop-i
-invariant-loop-i l = (l.i ≤ 16) × (l.s ≡ part l.i (l.initial.s ⊕ l.b) l.initial.s)
-
-abbrev pub decreases-loop-i : goal.decreases-loop-i
-decreases-loop-i l = 16 - l.i
+invariant-loop-i l = l.s ≡ part l.i (l.initial.s ⊕ l.b) l.initial.s

@@ -12,9 +12,6 @@ returns-then-l-eq16 c =
     ∙ ap (λ (z : List ℕ). z ⊕ d.k1) (c.block_at.ensures ∙ take_all 16 d.l.now (omega (arith, t.if-l-eq16.true)))
     ∙ last-whole d.k1 d.k2 d.l.now t.if-l-eq16.true
 
-pub padded-requires : goal.padded-requires
-padded-requires c = omega (arith, c.requires, c.if-l-eq16.false)
-
 pub returns : goal.returns
 returns c =
     let t = c in

@@ -1,6 +1,6 @@
 -- The chain over all blocks but the last, and then the last (Chain).
 use Rattle.std.specs.Prelude.{◌≡◌, ◌-◌, ◌/◌}
-use Rattle.fips197.proofs.Kit.{ap, ap₂, ◌∙◌, List, ℕ, arith, length, take, drop, take_all, length-take, length-drop, rules}
+use Rattle.fips197.proofs.Kit.{ap, ap₂, ◌∙◌, List, ℕ, arith, length, take, drop, take_all, length-drop, rules}
 use Rattle.blocks.specs.Block.{◌⊕◌, zeros}
 use Rattle.blocks.specs.Chain.{chain}
 use Rattle.blocks.proofs.Chaining.{chain-block}
@@ -8,9 +8,6 @@ use Rattle.cipher.specs.Aes.{cipher}
 use Rattle.cipher.specs.Cmac.{last_block, mac_with}
 use Rattle.cipher.proofs.Chain.{mac_last}
 use Rattle.cipher.proofs.cmac.mac.Goals as goal
-
-pub last_block-last-requires : goal.last_block-last-requires
-last_block-last-requires c = simp (length-take, length-drop) (omega (arith, c.last_at-at.ensures.0))
 
 pub returns : goal.returns
 unfolding mac_with

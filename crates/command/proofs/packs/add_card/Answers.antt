@@ -1,35 +1,20 @@
 -- What Append says of the card, at its place (Placing).
-use Rattle.fips197.proofs.Kit.{arith, rules}
-use Rattle.command.proofs.Placing.{placed-none, said-so, size_refused, size_more, size-inside, size_small}
+use Rattle.fips197.proofs.Kit.{arith}
+use Rattle.command.proofs.Placing.{none_said, size_more, size-inside, size_small}
 use Rattle.command.proofs.packs.add_card.Goals as goal
 
-pub returns-then-r-ne0 : goal.returns-then-r-ne0
-returns-then-r-ne0 c =
-    let a = c.append-r.ensures in
-    record {
-      refused = said-so c.args.file.now c.args.n c.args.card.now c.args.k _ a.refused _ c.placed.ensures;
-      size = size_refused c.args.file.now c.args.n c.args.card.now c.args.k _ a.refused c.if-r-ne0.true;
-      written = a.written;
-      inside = search rules;
-    }
-
 pub overflow_add-result : goal.overflow_add-result
-overflow_add-result c =
-    let a = c.append-r.ensures in
-    omega (arith, size_small c.args.file.now c.args.n c.args.card.now c.args.k _ a.refused c.if-r-ne0.false)
+overflow_add-result c = omega (arith, size_small c.args.file.now c.args.n c.args.card.now c.args.k c.in-Ok.ensures.refused)
 
-pub overflow_add-result-2 : goal.overflow_add-result-2
-overflow_add-result-2 c =
-    let a = c.append-r.ensures in
-    omega (arith, size_small c.args.file.now c.args.n c.args.card.now c.args.k _ a.refused c.if-r-ne0.false)
+pub overflow_add-result-in-Ok : goal.overflow_add-result-in-Ok
+overflow_add-result-in-Ok c = omega (arith, size_small c.args.file.now c.args.n c.args.card.now c.args.k c.in-Ok.ensures.refused)
 
-pub returns : goal.returns
-returns c =
-    let a = c.append-r.ensures in
-    let h = size-inside c.args.file.now c.args.n c.args.card.now c.args.k _ a.refused c.if-r-ne0.false in
-    record {
-      refused = said-so c.args.file.now c.args.n c.args.card.now c.args.k _ a.refused _ (placed-none _ _ c.if-r-ne0.false);
-      size = size_more c.args.file.now c.args.n c.args.card.now c.args.k _ a.refused c.if-r-ne0.false;
-      written = a.written;
-      inside = omega (arith, h);
-    }
+pub returns-in-Ok-clause-refused : goal.returns-in-Ok-clause-refused
+returns-in-Ok-clause-refused c = none_said c.args.file.now c.args.n c.args.card.now c.args.k c.in-Ok.ensures.refused
+
+pub returns-in-Ok-clause-size : goal.returns-in-Ok-clause-size
+returns-in-Ok-clause-size c = size_more c.args.file.now c.args.n c.args.card.now c.args.k c.in-Ok.ensures.refused
+
+pub returns-in-Ok-clause-inside : goal.returns-in-Ok-clause-inside
+returns-in-Ok-clause-inside c =
+    omega (arith, size-inside c.args.file.now c.args.n c.args.card.now c.args.k c.in-Ok.ensures.refused)

@@ -1,13 +1,9 @@
--- Each test settles it (Placing).
-use Rattle.fips197.proofs.Kit.{rules}
-use Rattle.command.proofs.Placing.{placed-none, placed-long, placed_other}
+-- Each reason for itself (Placing).
+use Rattle.command.proofs.Placing.{placed-room, placed_other}
 use Rattle.command.proofs.packs.placed.Goals as goal
 
-pub returns-then-r-eq0 : goal.returns-then-r-eq0
-returns-then-r-eq0 c = placed-none c.args.r c.args.k c.if-r-eq0.true
+pub returns-in-Room : goal.returns-in-Room
+returns-in-Room c = placed-room _ _ _ c.in-Room.is
 
-pub returns-then-r-eq7 : goal.returns-then-r-eq7
-returns-then-r-eq7 c = search (rules, placed-long)
-
-pub returns : goal.returns
-returns c = search (rules, placed_other)
+pub returns-in_default : goal.returns-in_default
+returns-in_default c = placed_other _ _ _ c.in_default.not-Room

@@ -37,7 +37,7 @@ returns c =
     let e = place in (
       (λ i. record {
         stamp = c.stamp_of-stamp.ensures i;
-        code = (c.wide.ensures ∙ ap (λ (k : ℕ). get_or s k 0) e) i;
+        code = (c.from.ensures ∙ ap (λ (k : ℕ). get_or s k 0) e) i;
         count = (c.number16.ensures.0 ∙ ap (λ (k : ℕ). number16 s (k + 1)) e) i;
       }),
       c.number16.ensures.1,

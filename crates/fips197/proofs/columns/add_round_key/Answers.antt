@@ -1,11 +1,12 @@
--- A column at a time (WordLaws).
-use Rattle.fips197.proofs.WordLaws.{keyed_columns}
+-- A round key is 16 bytes of the schedule.
+use Rattle.fips197.proofs.Kit.{ap, ◌∙◌, List, ℕ}
+use Rattle.fips197.specs.Block.{◌⊕◌}
+use Rattle.fips197.specs.Aes.{round_key}
+use Rattle.fips197.specs.Words.{state_of}
 use Rattle.fips197.proofs.columns.add_round_key.Goals as goal
 
 pub returns : goal.returns
+unfolding round_key
 returns c =
-    let d = c in
-    let s = d.args.s in
-    keyed_columns d.args.w.now d.args.n s.a s.b s.c s.d _ _ _ _ d.requires.1 d.requires.0
-    c.key_word.ensures c.key_word-2.ensures
-    c.key_word-3.ensures c.key_word-4.ensures
+    let s = c.args.s in
+    c.add.ensures ∙ ap (λ (l : List ℕ). state_of s.a s.b s.c s.d ⊕ l) c.load_at.ensures

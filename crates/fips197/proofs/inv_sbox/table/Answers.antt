@@ -4,6 +4,6 @@ use Rattle.fips197.specs.Aes.{bit, byte_of}
 use Rattle.fips197.proofs.TableRules.{unaffine, way_back, inv_sbox_table_lem, inv_sbox_table}
 use Rattle.fips197.proofs.inv_sbox.table.Goals as goal
 
-pub returns : goal.returns
+pub invariant_of-result : goal.invariant_of-result
 unfolding inv_sbox_table_lem way_back unaffine byte_of bit inverse power power_by ◌•◌ product_by xtimes
-returns c = inv_sbox_table
+invariant_of-result c = record { tabulates = inv_sbox_table }

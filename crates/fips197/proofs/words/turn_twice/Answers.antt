@@ -1,7 +1,8 @@
 -- The digits turned by two (WordLaws).
-use Rattle.fips197.proofs.Kit.{rules}
+use Rattle.fips197.proofs.Kit.{ap, ◌∙◌, rules}
+use Rattle.fips197.specs.Words.{bytes_of}
 use Rattle.fips197.proofs.WordLaws.{bytes_turn2}
 use Rattle.fips197.proofs.words.turn_twice.Goals as goal
 
 pub returns : goal.returns
-returns c = bytes_turn2 c.args.x (search rules)
+returns c = ap bytes_of c.rotate_right.ensures ∙ bytes_turn2 c.args.x (search rules)

@@ -1,10 +1,7 @@
-use Rattle.std.specs.Prelude.{◌≡◌, ◌≤◌}
+use Rattle.std.specs.Prelude.{◌≡◌, ◌-◌}
 use Rattle.fips197.specs.Aes.{inv_rounds}
 use Rattle.fips197.specs.Words.{state_of}
 use Rattle.plain.proofs.rounds.inv_cipher.Given as goal
 
 abbrev pub invariant-loop-n : goal.invariant-loop-n
-invariant-loop-n l = (l.n ≤ 9) × (inv_rounds l.w l.n (state_of l.s.a l.s.b l.s.c l.s.d) ≡ inv_rounds l.w 9 (state_of l.initial.s.a l.initial.s.b l.initial.s.c l.initial.s.d))
-
-abbrev pub decreases-loop-n : goal.decreases-loop-n
-decreases-loop-n l = l.n
+invariant-loop-n l = inv_rounds l.w (l.n - 1) (state_of l.s.a l.s.b l.s.c l.s.d) ≡ inv_rounds l.w 9 (state_of l.initial.s.a l.initial.s.b l.initial.s.c l.initial.s.d)

@@ -10,4 +10,4 @@ returns c =
     let d = c in
     c.inv_mix_columns.ensures
     ∙ ap inv_mix_columns (c.add_round_key.ensures
-    ∙ ap (λ (s : List ℕ). s ⊕ round_key d.args.w.now d.args.n) (c.inv_shift.ensures inv_sbox d.requires.tabulates))
+    ∙ ap (λ (s : List ℕ). s ⊕ round_key d.args.w.now d.args.n) (c.inv_shift.ensures inv_sbox d.args.t.now.tabulates))

@@ -10,4 +10,4 @@ returns c =
     let d = c in
     c.add_round_key.ensures
     ∙ ap (λ (s : List ℕ). s ⊕ round_key d.args.w.now d.args.n)
-    (c.mix_columns.ensures ∙ ap mix_columns (c.shift.ensures sbox d.requires.tabulates))
+    (c.mix_columns.ensures ∙ ap mix_columns (c.shift.ensures sbox d.args.t.now.tabulates))

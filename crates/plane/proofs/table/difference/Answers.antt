@@ -1,5 +1,5 @@
 -- An entry of the plane's part of the table.
-use Rattle.fips197.proofs.Kit.{refl, ap, ◌∙◌, List, arith, length, get_or, ℕ}
+use Rattle.fips197.proofs.Kit.{refl, ap, ◌∙◌, List, get_or, ℕ}
 use Rattle.plane.specs.Table.{difference_lists}
 use Rattle.plane.proofs.table.difference.Goals as goal
 
@@ -7,8 +7,5 @@ pub differences-requires : goal.differences-requires
 unfolding difference_lists
 differences-requires c = refl
 
-pub read-requires : goal.read-requires
-read-requires c = omega (arith, ap length c.differences.ensures)
-
 pub returns : goal.returns
-returns c = c.read.ensures ∙ ap (λ (l : List ℕ). get_or l c.args.k 0) c.differences.ensures
+returns c = c.from.ensures ∙ ap (λ (l : List ℕ). get_or l c.args.k 0) c.differences.ensures

@@ -16,7 +16,7 @@ pub write_tags-requires : goal.write_tags-requires
 write_tags-requires c =
     let set_out : let a = c.args in Walk a.s a.i c.differences-d.result.now c.rank-turn.result =
     walk_of c.requires.le_i.0 c.requires.le_i.1 c.items.ensures c.differences-d.ensures c.rank-turn.ensures in
-    record { walk = set_out; in_bounds = c.requires.in_bounds }
+    record { walk = set_out }
 
 pub returns-then-back : goal.returns-then-back
 returns-then-back c = record {
@@ -28,7 +28,7 @@ pub write_items-requires : goal.write_items-requires
 write_items-requires c =
     let set_out : let a = c.args in Walk a.s a.i c.differences-d.result.now c.rank-turn.result =
     walk_of c.requires.le_i.0 c.requires.le_i.1 c.items.ensures c.differences-d.ensures c.rank-turn.ensures in
-    record { walk = set_out; in_bounds = c.requires.in_bounds }
+    record { walk = set_out }
 
 pub returns : goal.returns
 returns c = record {

@@ -19,7 +19,7 @@ write_moved-requires c =
     let W = c.requires.walk in
     let e = to_end a.d.now a.turn in
     record {
-      up_bound = (omega (arith, W.high, items-most a.s), omega arith, omega (arith, ap length e, length-drop a.turn a.d.now, few W, c.requires.in_bounds));
+      up_bound = (omega (arith, W.high, items-most a.s), omega arith, omega (arith, ap length e, length-drop a.turn a.d.now, few W));
       by_index = round_all W c.items.ensures e refl;
     }
 
@@ -57,7 +57,7 @@ write_moved-requires-2 c =
     let a = c.args in
     let W = c.requires.walk in
     let t = walk_turn W in
-    let room : length a.d.now ≤ length a.out.now = omega (arith, few W, c.requires.in_bounds) in
+    let room : length a.d.now ≤ length a.out.now = omega (arith, few W) in
     let kept = first-kept a.d.now a.turn t a.out.now _ _ room c.write_moved.ensures in
     record {
       up_bound = (omega (arith, W.high, items-most a.s), omega (arith, few W), omega (arith, kept, B-long a.d.now a.turn t, room, t));
@@ -70,7 +70,7 @@ returns c =
     let a = c.args in
     let W = c.requires.walk in
     let t = walk_turn W in
-    let room : length a.d.now ≤ length a.out.now = omega (arith, few W, c.requires.in_bounds) in
+    let room : length a.d.now ≤ length a.out.now = omega (arith, few W) in
     let e = parts_items W c.items.ensures (to_end a.d.now a.turn) (before a.d.now a.turn t) in
     record {
       written = both a.d.now a.turn t a.out.now _ _ room c.write_moved.ensures _ _ c.write_moved-2.ensures ∙ ap (λ (L : List ℕ). L ++ drop (length a.d.now) a.out.now) e ∙ ap (λ (k : ℕ). items_of (plane a.s) a.i ++ drop k a.out.now) (sym (items-many W));
@@ -86,5 +86,5 @@ slice_bounds-write_moved-count c = walk_turn c.requires.walk
 pub slice_bounds-write_moved-start : goal.slice_bounds-write_moved-start
 slice_bounds-write_moved-start c = let h : c.args.turn ≤ length c.args.d.now = walk_turn c.requires.walk in search rules
 
-pub slice_bounds-write_moved-end-2 : goal.slice_bounds-write_moved-end-2
-slice_bounds-write_moved-end-2 c = let h : c.args.turn ≤ length c.args.d.now = walk_turn c.requires.walk in search rules
+pub slice_bounds-write_moved-end-3 : goal.slice_bounds-write_moved-end-3
+slice_bounds-write_moved-end-3 c = let h : c.args.turn ≤ length c.args.d.now = walk_turn c.requires.walk in search rules

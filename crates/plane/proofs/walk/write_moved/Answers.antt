@@ -11,7 +11,6 @@ loop-k-init c =
     let long : length (map moved c.args.list.now) ≡ length c.args.list.now = length-map c.args.list.now moved in
     let a = c.args in
     let z : a.at ≡ a.at + 0 = omega arith in (
-      omega arith,
       refl,
       place-first a.out.now (map moved a.list.now) a.at (length a.list.now) c.requires.up_bound.2 long
           ∙ ap (λ (k : ℕ). part k (take a.at a.out.now ++ (map moved a.list.now ++ drop (a.at + length a.list.now) a.out.now)) a.out.now) z,
@@ -23,10 +22,9 @@ loop-k-preserved c =
     let long : length (map moved c.args.list.now) ≡ length c.args.list.now = length-map c.args.list.now moved in
     let a = c.args in
     let h = c.loop-k-test.true in (
-      omega arith,
       search rules,
-      place_turn a.out.now (map moved a.list.now) a.at (length a.list.now) c.requires.up_bound.2 long c.loop-k.k c.loop-k.out _ h c.loop-k.invariant.2
-          (ap moved c.read.ensures ∙ sym (map_at moved a.list.now c.loop-k.k h)),
+      place_turn a.out.now (map moved a.list.now) a.at (length a.list.now) c.requires.up_bound.2 long c.loop-k.k c.loop-k.out _ h c.loop-k.invariant.1
+          (ap moved c.from.ensures ∙ sym (map_at moved a.list.now c.loop-k.k h)),
     )
 
 pub returns : goal.returns
@@ -34,4 +32,4 @@ returns c =
     let moved : ℕ → ℕ = λ e. c.args.up + e - c.args.down in
     let long : length (map moved c.args.list.now) ≡ length c.args.list.now = length-map c.args.list.now moved in
     let a = c.args in
-    place_done a.out.now (map moved a.list.now) a.at (length a.list.now) c.requires.up_bound.2 long c.loop-k.k c.loop-k.out (omega (arith, c.loop-k.invariant.0)) c.loop-k.invariant.2
+    place_done a.out.now (map moved a.list.now) a.at (length a.list.now) c.requires.up_bound.2 long c.loop-k.k c.loop-k.out (omega arith) c.loop-k.invariant.1

@@ -29,7 +29,7 @@ offset_bounds-out-k c =
 
 pub bounds-out-k : goal.bounds-out-k
 bounds-out-k c =
-    omega (arith, c.loop-k-test.true, c.loop-k.invariant.1, few c.requires.walk, c.requires.in_bounds)
+    omega (arith, c.loop-k-test.true, c.loop-k.invariant.1, few c.requires.walk)
 
 pub loop-k-preserved : goal.loop-k-preserved
 loop-k-preserved c =
@@ -43,7 +43,7 @@ loop-k-preserved c =
       omega (arith, n),
       search rules,
       part_turn c.loop-k.k (tags_of (plane a.s) j) a.out.now c.loop-k.out _ c.loop-k.invariant.2
-          (omega (arith, c.loop-k-test.true, few c.requires.walk, c.requires.in_bounds)) n (tag_at a.s j f place c.row_at-row.ensures u),
+          (omega (arith, c.loop-k-test.true, few c.requires.walk)) n (tag_at a.s j f place c.row_at-row.ensures u),
     )
 
 pub returns : goal.returns
@@ -55,5 +55,5 @@ returns c =
     omega (arith, c.loop-k.invariant.0, tags_fewer a.s j (walk_rules c.requires.walk).fits, rows-many c.requires.walk) in
     record {
       written = part_front _ c.loop-k.k (tags_of (plane a.s) j) a.out.now c.loop-k.out c.loop-k.invariant.2 e refl;
-      count = e;
+      count = omega (arith, e);
     }

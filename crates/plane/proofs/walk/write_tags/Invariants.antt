@@ -9,6 +9,3 @@ use Rattle.plane.proofs.walk.write_tags.Given as goal
 abbrev pub invariant-loop-k : goal.invariant-loop-k
 invariant-loop-k l =
     (l.k ≤ length (tags_of (plane l.s) (plane_items l.s + 1 - l.i))) × (length l.out ≡ length l.initial.out) × (l.out ≡ part l.k (tags_of (plane l.s) (plane_items l.s + 1 - l.i)) l.initial.out)
-
-abbrev pub decreases-loop-k : goal.decreases-loop-k
-decreases-loop-k l = l.n - l.k

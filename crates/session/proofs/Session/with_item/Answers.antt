@@ -11,8 +11,6 @@ pub add_item-requires : goal.add_item-requires
 add_item-requires c =
     let sums-long : length c.args.self.sums ≡ 1312 = search rules in
     record {
-      engine_tables = search rules;
-      code_value = c.requires.code_value;
       code_in_bounds = sums_fit c.args.self.code c.args.self.sums sums-long;
       item_len_bound = (c.requires.item_len_bound, search rules);
     }

@@ -7,6 +7,6 @@ use Rattle.tables.specs.RoundTables.{inv_spread, down, inv_round_entry}
 use Rattle.tables.proofs.TableRules.{is_entry, tables_rule, inv_spread-bytes}
 use Rattle.tables.proofs.inv_round_tables.table.Goals as goal
 
-pub returns : goal.returns
+pub invariant_of-result : goal.invariant_of-result
 unfolding inv_round_entry is_entry down inv_spread ◌•◌ product_by xtimes inv_sbox_table_lem way_back unaffine byte_of bit inverse power power_by
-returns c = tables_rule inv_spread inv_sbox inv_sbox_table_lem _ inv_spread-bytes inv_sbox_lt inv_sbox_table refl tt
+invariant_of-result c = record { entries = tables_rule inv_spread inv_sbox inv_sbox_table_lem _ inv_spread-bytes inv_sbox_lt inv_sbox_table refl tt }

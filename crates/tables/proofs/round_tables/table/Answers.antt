@@ -7,6 +7,6 @@ use Rattle.tables.specs.RoundTables.{spread, down, round_entry}
 use Rattle.tables.proofs.TableRules.{is_entry, tables_rule, spread-bytes}
 use Rattle.tables.proofs.round_tables.table.Goals as goal
 
-pub returns : goal.returns
+pub invariant_of-result : goal.invariant_of-result
 unfolding round_entry is_entry down spread sbox_table_lem sbox affine byte_of bit inverse power power_by ◌•◌ product_by xtimes
-returns c = tables_rule spread sbox sbox_table_lem _ spread-bytes sbox_lt sbox_table refl tt
+invariant_of-result c = record { entries = tables_rule spread sbox sbox_table_lem _ spread-bytes sbox_lt sbox_table refl tt }

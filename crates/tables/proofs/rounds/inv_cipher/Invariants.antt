@@ -1,4 +1,4 @@
-use Rattle.std.specs.Prelude.{◌≡◌, ◌≤◌}
+use Rattle.std.specs.Prelude.{◌≡◌, ◌-◌}
 use Rattle.fips197.proofs.Kit.{List, ℕ, length}
 use Rattle.fips197.specs.Aes.{inv_rounds}
 use Rattle.fips197.specs.Words.{state_of}
@@ -7,8 +7,5 @@ use Rattle.tables.proofs.rounds.inv_cipher.Given as goal
 
 abbrev pub invariant-loop-n : goal.invariant-loop-n
 invariant-loop-n l =
-    (l.n ≤ 9) × ((w : List ℕ) → length w ≡ 176 → DecipherWords l.k w
-    → inv_rounds w l.n (state_of l.s.a l.s.b l.s.c l.s.d) ≡ inv_rounds w 9 (state_of l.initial.s.a l.initial.s.b l.initial.s.c l.initial.s.d))
-
-abbrev pub decreases-loop-n : goal.decreases-loop-n
-decreases-loop-n l = l.n
+    (w : List ℕ) → length w ≡ 176 → DecipherWords l.k w
+    → inv_rounds w (l.n - 1) (state_of l.s.a l.s.b l.s.c l.s.d) ≡ inv_rounds w 9 (state_of l.initial.s.a l.initial.s.b l.initial.s.c l.initial.s.d)

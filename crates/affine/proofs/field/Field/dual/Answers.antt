@@ -1,0 +1,23 @@
+-- By the definition.
+use Rattle.std.specs.Prelude.{◌≤◌}
+use Rattle.fips197.proofs.Kit.{arith}
+use Rattle.affine.specs.Lines.{x_of, y_of}
+use Rattle.affine.specs.Walk.{dual}
+use Rattle.affine.proofs.Computing.{elements_few}
+use Rattle.affine.proofs.field.Field.dual.Goals as goal
+
+pub returns : goal.returns
+unfolding dual x_of y_of
+returns c = rw c.elements-q.ensures
+
+pub nonzero_div-result : goal.nonzero_div-result
+nonzero_div-result c =
+    let some : 4 ≤ c.elements-q.result =
+    omega (arith, c.elements-q.ensures, (elements_few c.args.self.s c.args.self.here).0) in
+    omega (arith, some)
+
+pub nonzero_rem-result : goal.nonzero_rem-result
+nonzero_rem-result c =
+    let some : 4 ≤ c.elements-q.result =
+    omega (arith, c.elements-q.ensures, (elements_few c.args.self.s c.args.self.here).0) in
+    omega (arith, some)

@@ -1,6 +1,0 @@
--- The first ones are a run.
-use Rattle.files.proofs.Passing.{run2, listed}
-use Rattle.files.proofs.refusals.first4.Goals as goal
-
-pub returns : goal.returns
-returns c = rw run2 (search listed depth 12)

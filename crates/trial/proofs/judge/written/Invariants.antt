@@ -1,9 +1,0 @@
--- The place stays inside the buffer.
-use Rattle.std.proofs.Common.{◌≤◌, length}
-use Rattle.trial.proofs.judge.written.Given as goal
-
-abbrev pub invariant-loop-n : goal.invariant-loop-n
-invariant-loop-n l = l.n ≤ length l.out
-
-abbrev pub decreases-loop-n : goal.decreases-loop-n
-decreases-loop-n l = l.n
