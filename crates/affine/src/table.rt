@@ -6,7 +6,6 @@ ghost use Rattle.affine.specs.Affine.{sized, affine_family};
 ghost use Rattle.affine.specs.Walk.{size_index, entry_of, wide_entry_of, past_lists, MadeIn};
 
 use crate::Affine;
-use incidence::MADE_MOST;
 
 // The tag of the row that each point is, 0 where it is none or has none. A size has 64 entries.
 pub const POINT_TAGS: [u8; 640] = *b"\
@@ -151,8 +150,8 @@ fn wide_entry(t: &[u8], k: usize) -> usize
 
 // Copies numbers to the front of out, wider, and gives how many.
 // (plane's `write_made` is like it but for what is written: they share the `for` alone.)
-fn copy(from: &[u8], out: &mut [u16; MADE_MOST]) -> usize
-    requires { length from.now ≤ 35 }
+fn copy(from: &[u8], out: &mut [u16]) -> usize
+    requires { (length from.now ≤ 35) × (35 ≤ length out.old) }
     ensures written { out.new ≡ from.now ++ drop (length from.now) out.old }
     ensures count { result ≡ length from.now }
 {
@@ -282,8 +281,8 @@ impl Affine {
     }
 
     // Copies the rows that row i is made of, from where the tables have them, to the front of out.
-    fn copy_made(&self, starts: &[u8], all: &[u8], i: usize, out: &mut [u16; MADE_MOST]) -> usize
-        requires le_i { (1 ≤ i) × (i ≤ row_count self.now.field.s self.now.l) }
+    fn copy_made(&self, starts: &[u8], all: &[u8], i: usize, out: &mut [u16]) -> usize
+        requires le_i { (1 ≤ i) × (i ≤ row_count self.now.field.s self.now.l) × (35 ≤ length out.old) }
         requires made_in { MadeIn self.now.field.s self.now.l i starts.now all.now }
         ensures written { out.new ≡ (affine_family self.now.field.s self.now.l).made i ++ drop (length ((affine_family self.now.field.s self.now.l).made i)) out.old }
         ensures count { result ≡ length ((affine_family self.now.field.s self.now.l).made i) }
@@ -295,8 +294,8 @@ impl Affine {
     }
 
     // Writes the rows that row i is made of to the front of out, and gives how many; none where it has a tag. What is behind them stays.
-    pub fn made_at(&self, i: usize, out: &mut [u16; MADE_MOST]) -> usize
-        requires { (1 ≤ i) × (i ≤ row_count self.now.field.s self.now.l) }
+    pub fn made_at(&self, i: usize, out: &mut [u16]) -> usize
+        requires { (1 ≤ i) × (i ≤ row_count self.now.field.s self.now.l) × (35 ≤ length out.old) }
         ensures written { out.new ≡ (affine_family self.now.field.s self.now.l).made i ++ drop (length ((affine_family self.now.field.s self.now.l).made i)) out.old }
         ensures count { result ≡ length ((affine_family self.now.field.s self.now.l).made i) }
     {

@@ -80,8 +80,8 @@ impl Field {
     }
 
     // Writes the entries, other than 0, of a table of points at the points of a course to the front of out.
-    fn write_tags(self, course: Course, tags: &[u8], out: &mut [usize; MOST]) -> usize
-        requires { (start_of course < 2 ^ self.s) × (64 ≤ length tags.now) }
+    fn write_tags(self, course: Course, tags: &[u8], out: &mut [usize]) -> usize
+        requires { (start_of course < 2 ^ self.s) × (64 ≤ length tags.now) × (9 ≤ length out.old) }
         ensures written { out.new ≡ met self.s course tags.now (2 ^ self.s) ++ drop (length (met self.s course tags.now (2 ^ self.s))) out.old }
         ensures count { result ≡ length (met self.s course tags.now (2 ^ self.s)) }
     {
@@ -152,8 +152,9 @@ impl Affine {
     }
 
     // Writes the items through point p, which is a row, to the front of out.
-    fn write_items(&self, p: usize, course: Course, out: &mut [usize; MOST]) -> usize
+    fn write_items(&self, p: usize, course: Course, out: &mut [usize]) -> usize
         requires le_p { (1 ≤ p) × (course ≡ course_of self.now.field.s (dual self.now.field.s p)) }
+        requires in_bounds { 9 ≤ length out.old }
         ensures written { out.new ≡ firsts (through_at self.now.field.s self.now.l p) (through_count self.now.field.s self.now.l p) ++ drop (through_count self.now.field.s self.now.l p) out.old }
         ensures count { result ≡ through_count self.now.field.s self.now.l p }
     {
@@ -162,6 +163,49 @@ impl Affine {
             out[k] = self.item_at(p, course, k);
         }
         n
+    }
+
+    // Writes the tags whose rows hold an item, rising, to the front of out, which 9 places serve, and gives how many; what is behind them
+    // stays.
+    pub fn list_tags(&self, item: usize, out: &mut [usize]) -> usize
+        requires { 9 ≤ length out.old }
+        ensures written { out.new ≡ tags_of (affine_family self.now.field.s self.now.l) item ++ drop (length (tags_of (affine_family self.now.field.s self.now.l) item)) out.old }
+        ensures count { result ≡ length (tags_of (affine_family self.now.field.s self.now.l) item) }
+    {
+        if incidence::inside(self.items(), item) {
+            let all = table::POINT_TAGS;
+            let course = self.field.course_of(self.field.line_of(self.l, item));
+            self.field.write_tags(course, self.part(&all), out)
+        } else {
+            0
+        }
+    }
+
+    // Writes the items that a row holds, rising, likewise.
+    pub fn list_items(&self, row: usize, out: &mut [usize]) -> usize
+        requires { 9 ≤ length out.old }
+        ensures written { out.new ≡ items_of (affine_family self.now.field.s self.now.l) row ++ drop (length (items_of (affine_family self.now.field.s self.now.l) row)) out.old }
+        ensures count { result ≡ length (items_of (affine_family self.now.field.s self.now.l) row) }
+    {
+        if incidence::inside(self.rows(), row) {
+            let p = self.point_of(row);
+            self.write_items(p, self.field.course_of(self.field.dual(p)), out)
+        } else {
+            0
+        }
+    }
+
+    // Writes the rows that a row is made of to the front of out, and gives how many; none where it has a tag. What is behind them stays.
+    pub fn list_made(&self, row: usize, out: &mut [u16]) -> usize
+        requires { 35 ≤ length out.old }
+        ensures written { out.new ≡ (affine_family self.now.field.s self.now.l).made row ++ drop (length ((affine_family self.now.field.s self.now.l).made row)) out.old }
+        ensures count { result ≡ length ((affine_family self.now.field.s self.now.l).made row) }
+    {
+        if incidence::inside(self.rows(), row) {
+            self.made_at(row, out)
+        } else {
+            0
+        }
     }
 }
 
@@ -186,22 +230,11 @@ impl Rows for Affine {
     }
 
     fn tags_of(&self, item: usize, out: &mut [usize; MOST]) -> usize {
-        if incidence::inside(self.items(), item) {
-            let all = table::POINT_TAGS;
-            let course = self.field.course_of(self.field.line_of(self.l, item));
-            self.field.write_tags(course, self.part(&all), out)
-        } else {
-            0
-        }
+        self.list_tags(item, out)
     }
 
     fn items_of(&self, row: usize, out: &mut [usize; MOST]) -> usize {
-        if incidence::inside(self.rows(), row) {
-            let p = self.point_of(row);
-            self.write_items(p, self.field.course_of(self.field.dual(p)), out)
-        } else {
-            0
-        }
+        self.list_items(row, out)
     }
 
     fn tag_of_row(&self, row: usize) -> usize {
@@ -213,10 +246,6 @@ impl Rows for Affine {
     }
 
     fn made_of(&self, row: usize, out: &mut [u16; MADE_MOST]) -> usize {
-        if incidence::inside(self.rows(), row) {
-            self.made_at(row, out)
-        } else {
-            0
-        }
+        self.list_made(row, out)
     }
 }

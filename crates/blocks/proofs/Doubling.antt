@@ -1,6 +1,6 @@
 -- Doubling: what each byte is, as the code computes it; that it is multiplication by x; and that it keeps blocks.
 use Rattle.std.specs.Prelude.{◌≡◌, ◌∷◌, ◌++◌, ◌+◌, ◌*◌, ◌/◌, ◌%◌, ◌^◌, ◌<◌}
-use Rattle.fips197.proofs.Kit.{sym, ap, ap₂, ◌∙◌, subst, ⊎_elim, List, [], ℕ, zero, suc, not-suc-le-zero, le_of_suc-le-suc, eq-or-lt_of_le, div-div-eq-div-mul, pow-suc, add-mul, mul_assoc, mul_comm, mod-lt, div-add-mod', div-lt_iff_lt-mul, zero-add, add-zero, lit<, pow_pos, arith, length, get_or, get_or-replicate, List·getD-append, get_or_at, bit_xor, bit_or, or_shifted, xor_zero_r, xor_block, xor_lt, xor_self}
+use Rattle.fips197.proofs.Kit.{sym, ap, ap₂, ◌∙◌, subst, ⊎_elim, List, [], ℕ, zero, suc, not-suc-le-zero, le_of_suc-le-suc, eq-or-lt_of_le, div-div-eq-div-mul, pow-suc, add-mul, mul_assoc, mul_comm, mod-lt, div-add-mod', div-lt_iff_lt-mul, zero-add, add-zero, lit<, pow_pos, arith, length, get_or, get_or-replicate, List·getD-append, get_or_at, bit_and, bit_xor, bit_or, and_mask, or_shifted, xor_zero_r, xor_block, xor_lt, xor_self}
 use Rattle.blocks.specs.Block.{Bytes, Block, ◌⊕◌, zeros}
 use Rattle.blocks.specs.Number.{number_of, number, big_endian}
 use Rattle.blocks.specs.Double.{double, times_x}
@@ -99,11 +99,28 @@ module _ (b : List ℕ) (h : Block b) where
       (ap (λ (t : List ℕ). get_or t 15 0) shifted ∙ shifted_last b h.bytes 15 0 (omega arith) ∙ add-zero _)
       (ap (λ (t : List ℕ). get_or t 15 0) marked)
 
--- the code's `(x << 1) | (y >> 7)`
-pub or_shifted_bit : (x y : ℕ) → y < 256 → bit_or (x * 2 % 256) (y / 128) ≡ x * 2 % 256 + y / 128
-or_shifted_bit x y h =
+-- the code's `(y >> 7) & 1`: the bit that is carried
+carried_bit : (y : ℕ) → y < 256 → bit_and (y / 128) 1 ≡ y / 128
+carried_bit y h = and_mask (y / 128) 1 ∙ omega arith
+
+-- `(x << 1) | (y >> 7)`
+pub or_carried_bit : (x y : ℕ) → y < 256 → bit_or (x * 2 % 256) (y / 128) ≡ x * 2 % 256 + y / 128
+or_carried_bit x y h =
     let e : x * 2 % 256 ≡ x % 128 * 2 = omega arith in
     ap (λ (z : ℕ). bit_or z (y / 128)) e ∙ or_shifted (x % 128) 1 (y / 128) (omega arith) ∙ ap (λ (z : ℕ). z + y / 128) (sym e)
+
+-- and `(x << 1) | ((y >> 7) & 1)`, which the code has
+pub or_shifted_bit : (x y : ℕ) → y < 256 → bit_or (x * 2 % 256) (bit_and (y / 128) 1) ≡ x * 2 % 256 + y / 128
+or_shifted_bit x y h = ap (bit_or (x * 2 % 256)) (carried_bit y h) ∙ or_carried_bit x y h
+
+-- and `0x87 & mask`, where the mask is the lost bit's negative
+pub masked_bit : (y mask : ℕ) → y < 256 → mask < 256 → (mask + bit_and (y / 128) 1) % 2 ^ 8 ≡ 0 → bit_and 0x87 mask ≡ 0x87 * (y / 128)
+masked_bit y mask h l e = go (y / 128) (omega arith) (sym (ap (λ (b : ℕ). (mask + b) % 256) (carried_bit y h)) ∙ e)
+  where
+    go : (b : ℕ) → b < 2 → (mask + b) % 256 ≡ 0 → bit_and 0x87 mask ≡ 0x87 * b
+    go zero s q = let z : mask ≡ 0 = omega arith in ap (bit_and 0x87) z
+    go (suc zero) s q = let z : mask ≡ 255 = omega arith in ap (bit_and 0x87) z
+    go (suc (suc b)) s q = absurd (omega arith)
 
 -- ---- blocks
 

@@ -4,6 +4,8 @@ ghost use Rattle.blocks.specs.Block.{◌⊕◌, zeros, slot, list_of, same, all_
 ghost use Rattle.blocks.specs.Number.{number, big_endian};
 ghost use Rattle.blocks.specs.Double.{double};
 
+use std::num::wrapping_sub_u8;
+
 // The XOR of two blocks.
 pub fn xor(a: [u8; 16], b: [u8; 16]) -> [u8; 16]
     ensures { result ≡ a ⊕ b }
@@ -82,12 +84,16 @@ pub fn put_bytes(out: &mut [u8], at: usize, text: &[u8])
     out[at..at + text.len()].copy_from_slice(text);
 }
 
-// Writes the first n blocks of s to the front of out; what is behind them stays.
+// Writes the first n blocks of s to the front of out; what is behind them stays. It goes block by block: a copy of a length that is known
+// only at run time is a call of memmove, which an archive for C would need from outside.
 pub fn copy_blocks(s: &[u8], n: usize, out: &mut [u8])
     requires { (16 * n ≤ length s.now) × (16 * n ≤ length out.old) }
     ensures { out.new ≡ list_of (slot s.now) n ++ drop (16 * n) out.old }
 {
-    out[0..16 * n].copy_from_slice(&s[0..16 * n]);
+    for k in 0..n {
+        let at = 16 * k;
+        put_at(out, at, block_at(s, at));
+    }
 }
 
 // Writes f of each of the first n blocks of buf in its place; what is behind them stays. Where all that f gives is g of a block, it is g of each.
@@ -111,16 +117,17 @@ pub fn xor_at(out: &mut [u8], at: usize, block: [u8; 16])
     put_at(out, at, sum);
 }
 
-// A block shifted left by one bit as a big-endian number, with 87 hexadecimal XORed into the last byte if the bit lost was 1. It goes
-// byte by byte, since through u128's bytes a row of masks takes 1.7 times as long.
+// A block shifted left by one bit as a big-endian number, with 87 hexadecimal XORed into the last byte if the bit lost was 1: the bit
+// lost is made a mask of eight equal bits. It goes byte by byte, since through u128's bytes a row of masks takes 1.7 times as long.
 pub fn double(b: [u8; 16]) -> [u8; 16]
     ensures { result ≡ double b }
 {
     let mut r = [0u8; 16];
     for i in 0..15 {
-        r[i] = (b[i] << 1) | (b[i + 1] >> 7);
+        r[i] = (b[i] << 1) | ((b[i + 1] >> 7) & 1);
     }
-    r[15] = (b[15] << 1) ^ 0x87 * (b[0] >> 7);
+    let lost = wrapping_sub_u8(0, (b[0] >> 7) & 1);
+    r[15] = (b[15] << 1) ^ (0x87 & lost);
     r
 }
 

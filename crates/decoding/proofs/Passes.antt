@@ -2,7 +2,7 @@
 -- longer one leaves no more items marked, and one row more changes marks of that row alone. That it counts no fewer rows is `incidence`'s
 -- (Walking). And where every row agrees, the pass over all of them is what `intact` does.
 use Rattle.std.specs.Prelude.{◌≡◌, ◌&&◌, ◌++◌, ◌≤◌, if◌then◌else◌}
-use Rattle.fips197.proofs.Kit.{refl, sym, ap, ◌∙◌, Bool, true, false, not, true≢false, List, ℕ, suc, eqb, length, drop, eqb-true, eq-eqb}
+use Rattle.fips197.proofs.Kit.{refl, sym, ap, ◌∙◌, Bool, true, false, not, true≢false, List, append-nil, ℕ, suc, arith, eqb, length, drop, drop-length, replicate, eqb-true, eq-eqb}
 use Rattle.blocks.specs.Block.{zeros}
 use Rattle.incidence.specs.Count.{count_up_to}
 use Rattle.incidence.specs.Family.{Family, Lawful}
@@ -11,7 +11,7 @@ use Rattle.incidence.proofs.Counting.{count_mono}
 use Rattle.incidence.proofs.Walking.{stays_cleared, cleared_step}
 use Rattle.incidence.proofs.Differences.{none-disagree}
 use Rattle.decoding.specs.Decoding.{mark_in, Marked, Cleared, is_marked}
-use Rattle.decoding.proofs.Marks.{cleared_as, cleared_apart, named-marked, marked-list, marks_agreeing}
+use Rattle.decoding.proofs.Marks.{marked_all, cleared_as, cleared_apart, named-marked, marked-list, marks_agreeing}
 
 module _ (F : Family) (agrees : ℕ → Bool) (n : ℕ) {before short long : List ℕ} where
   module _ (i k : ℕ) (more : i ≤ k) (S : Cleared (cleared F agrees i) n before short) (L : Cleared (cleared F agrees k) n before long) where
@@ -64,3 +64,10 @@ module _ (F : Family) (L : Lawful F) (agrees : ℕ → Bool) (all : (i : ℕ) �
         ∙ ap (λ (l : List ℕ). l ++ drop n before) (marks_agreeing F agrees all L n fits),
     none-disagree F agrees all,
   )
+
+  -- and as `decode` and `intact` have it, over as many marks as there are items
+  pub pass_intact : (before : List ℕ) {after : List ℕ} → length before ≤ F.items
+      → Cleared (cleared F agrees F.rows) (length before) (replicate (length before) 1) after → after ≡ zeros (length before)
+  pass_intact before fits C =
+      (pass_agreeing (length before) fits (omega arith) (marked_all before 1) C).0
+      ∙ ap (λ (l : List ℕ). zeros (length before) ++ l) (drop-length before) ∙ append-nil (zeros (length before))

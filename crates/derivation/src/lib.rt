@@ -3,7 +3,7 @@
 #![tactic(auto)]
 
 ghost use Rattle.std.specs.Prelude.{◌≡◌, ◌++◌, ◌+◌, ◌≤◌, [], length, take, drop};
-ghost use Rattle.plane.specs.Table.{plane_pattern};
+ghost use Rattle.plane.specs.Table.{differences, plane_pattern};
 ghost use Rattle.derivation.specs.Lines.{words, pattern_line, pattern_lines};
 ghost use Rattle.derivation.specs.Derived.{derived};
 
@@ -20,14 +20,27 @@ fn put_words<const N: usize>(text: &mut Text<N>, steps: &[u16])
     }
 }
 
+// Copies the difference list of s to the front of list, and gives how many members it has.
+fn copy_differences(s: usize, list: &mut [u16; 17]) -> usize
+    ensures written { list.new ≡ differences s ++ drop (length (differences s)) list.old }
+    ensures count { result ≡ length (differences s) }
+{
+    let n = table::difference_count(s);
+    for i in 0..n {
+        list[i] = table::difference(s, i) as u16;
+    }
+    n
+}
+
 // Writes the pattern that the difference list of plane s gives to the front of steps, and gives how many steps it has.
 fn derive(s: usize, steps: &mut [u16]) -> usize
     requires { (1 ≤ s) × (s ≤ 4) × (273 ≤ length steps.old) }
     ensures written { steps.new ≡ derived s ++ drop (length (derived s)) steps.old }
     ensures count { result ≡ length (derived s) }
 {
-    let all = table::DIFFERENCES;
-    cyclic::pattern(table::items(s), table::differences(&all, s), steps).unwrap()
+    let mut list = [0u16; 17];
+    let n = copy_differences(s, &mut list);
+    cyclic::pattern(table::items(s), &list[0..n], steps).unwrap()
 }
 
 // Puts the line of plane s: its size code, and the steps of the pattern that its difference list gives.

@@ -1,6 +1,6 @@
 -- Refusals: what passes is none, and the first of a list.
 use Rattle.std.specs.Prelude.{◌≡◌, ◌&&◌, ◌∷◌, ◌<◌, if◌then◌else◌}
-use Rattle.std.specs.Prelude.{Result, Ok, Err, is_err}
+use Rattle.std.specs.Prelude.{Result, Ok, Err, IfOk, is_err}
 use Rattle.fips197.proofs.Kit.{refl, sym, ap, ◌∙◌, Bool, true, false, List, [], ℕ, arith, eqb, eqb-true, eqb-false, eq-eqb, ne_eqb}
 use Rattle.files.specs.declared.refusals.Reason.{Reason}
 use Rattle.files.specs.declared.refusals.Reason.TheVariants.{Keys, Code, Message, Count, Items, TagFile, Room, Number, Item, Mac, Counts, Full, Early, Shut, Numbers}
@@ -188,13 +188,26 @@ reason_back Early = refl
 reason_back Shut = refl
 reason_back Numbers = refl
 
+err_settles : (d b : Refused) → refusal (number_of d.reason) d.place ≡ refusal (number_of b.reason) b.place → d ≡ b
+err_settles d b h =
+    let w = sym (reason_back d.reason) ∙ ap (λ (r : Refusal). reason_of r.number) h ∙ reason_back b.reason in
+    λ i. record { reason = w i; place = (ap (λ (r : Refusal). r.place) h) i }
+
+no_err : (d : Refused) → none ≡ refusal (number_of d.reason) d.place → ⊥
+no_err d h = let l = number-low d.reason in let n = ap (λ (r : Refusal). r.number) h in absurd (omega arith)
+
+-- and where a value stands beside, as Verify's and Report's, two that tell the same and have that value if they have one
+pub told_settles_with : {A : Type 0} (x y : Result A Refused) → told x ≡ told y → (v : A) → IfOk x (λ a. a ≡ v) → IfOk y (λ a. a ≡ v) → x ≡ y
+told_settles_with (Ok a) (Ok b) h v p q = ap (λ w. Ok w) (p ∙ sym q)
+told_settles_with (Ok a) (Err d) h v p q = absurd (no_err d h)
+told_settles_with (Err d) (Ok b) h v p q = absurd (no_err d (sym h))
+told_settles_with (Err d) (Err b) h v p q = ap (λ w. Err w) (err_settles d b h)
+
 pub told_settles : (x y : Result (Unit {0}) Refused) → told x ≡ told y → x ≡ y
 told_settles (Ok u) (Ok v) h = refl
-told_settles (Ok u) (Err d) h = let l = number-low d.reason in let n = ap (λ (r : Refusal). r.number) h in absurd (omega arith)
-told_settles (Err d) (Ok u) h = let l = number-low d.reason in let n = ap (λ (r : Refusal). r.number) h in absurd (omega arith)
-told_settles (Err d) (Err b) h =
-    let w = sym (reason_back d.reason) ∙ ap (λ (r : Refusal). reason_of r.number) h ∙ reason_back b.reason in
-    λ i. Err (record { reason = w i; place = (ap (λ (r : Refusal). r.place) h) i })
+told_settles (Ok u) (Err d) h = absurd (no_err d h)
+told_settles (Err d) (Ok u) h = absurd (no_err d (sym h))
+told_settles (Err d) (Err b) h = ap (λ w. Err w) (err_settles d b h)
 
 -- what a call leaves where its checks pass, and where one refuses
 module _ {A : Type 0} (q : Refusal) (done left : A) where

@@ -54,7 +54,7 @@ pub fn first_at(s: &[u8]) -> usize
 }
 
 // Whether the item at a place and its length lie in the file, and the length is at most 1,024.
-fn item_fits(s: &[u8], at: usize) -> bool
+pub fn item_fits(s: &[u8], at: usize) -> bool
     requires { at ≤ 65536 }
     ensures { result ≡ item_fits s.now at }
 {
@@ -85,7 +85,7 @@ fn check_header(s: &[u8]) -> Result<(), Refused>
 #[derive(Clone, Copy)]
 pub struct Headed<'a> {
     pub bytes: &'a [u8],
-    ghost headed: { (refuse3 bytes.now).number ≡ 0 },
+    pub ghost headed: { (refuse3 bytes.now).number ≡ 0 },
 }
 
 impl<'a> Headed<'a> {

@@ -1,6 +1,6 @@
 // Refusals: why a call refuses (document 01, 'From the input' and 'From the state'), as the error of its result. A call's checks stand one
 // behind the other in document 01's order, each with a `?`, so that the first that applies is the call's.
-ghost use Rattle.std.specs.Prelude.{◌≡◌};
+ghost use Rattle.std.specs.Prelude.{◌≡◌, true, false, is_ok, Err};
 ghost use Rattle.files.specs.Refusals.{number_of, told, unless};
 
 // Why, each by document 01's number.
@@ -39,13 +39,17 @@ pub struct Refused {
     pub place: usize,
 }
 
+// Nothing where the test holds, else the error, whichever it is.
+pub fn ok_or<E: Drop>(ok: bool, error: E) -> Result<(), E>
+    ensures passes { ok ≡ true → is_ok result ≡ true }
+    ensures refuses { ok ≡ false → result ≡ Err error }
+{
+    if ok { Ok(()) } else { Err(error) }
+}
+
 // Refuses where the test does not hold.
 pub fn unless(ok: bool, reason: Reason, place: usize) -> Result<(), Refused>
     ensures { told result ≡ unless ok (number_of reason) place }
 {
-    if ok {
-        Ok(())
-    } else {
-        Err(Refused { reason, place })
-    }
+    ok_or(ok, Refused { reason, place })
 }

@@ -113,7 +113,7 @@ fn check(s: &[u8]) -> Result<(), Refused>
 #[derive(Clone, Copy)]
 pub struct Formed<'a> {
     pub bytes: &'a [u8],
-    ghost formed: { (refuse6 bytes.now).number ≡ 0 },
+    pub ghost formed: { (refuse6 bytes.now).number ≡ 0 },
 }
 
 impl<'a> Formed<'a> {

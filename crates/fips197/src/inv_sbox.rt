@@ -22,10 +22,10 @@ const INV_SBOX: [u8; 256] = *b"\
     \x17\x2b\x04\x7e\xba\x77\xd6\x26\xe1\x69\x14\x63\x55\x21\x0c\x7d";
 
 // The inverse S-box as a table. A type beside `Sbox`, since one type for both would need a marker type for each, and say no more.
-#[derive(Drop)]
+#[derive(Clone, Copy)]
 pub struct InvSbox {
     pub bytes: [u8; 256],
-    ghost tabulates: { Tabulates bytes inv_sbox },
+    pub ghost tabulates: { Tabulates bytes inv_sbox },
 }
 
 // The table. A caller takes it once and passes it down by reference.

@@ -23,10 +23,10 @@ const SBOX: [u8; 256] = *b"\
     \x8c\xa1\x89\x0d\xbf\xe6\x42\x68\x41\x99\x2d\x0f\xb0\x54\xbb\x16";
 
 // The S-box as a table.
-#[derive(Drop)]
+#[derive(Clone, Copy)]
 pub struct Sbox {
     pub bytes: [u8; 256],
-    ghost tabulates: { Tabulates bytes sbox },
+    pub ghost tabulates: { Tabulates bytes sbox },
 }
 
 // The table. A caller takes it once and passes it down by reference.

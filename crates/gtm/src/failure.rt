@@ -12,7 +12,7 @@ pub enum Subject {
     StandardOutput,
 }
 
-// A word is told by its place.
+// A word is told by its place. `Said` is what was said where it came up, since something had to follow it.
 #[derive(Clone, Copy)]
 pub enum Failure {
     MissingWord,
@@ -21,6 +21,7 @@ pub enum Failure {
     UnknownCommand(usize),
     System(Subject, io::Error),
     Refused(Refused),
+    Said,
 }
 
 impl From<Refused> for Failure {

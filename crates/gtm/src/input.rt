@@ -24,7 +24,9 @@ fn fill(rt: &HostRuntime, name: &[u8], buf: &mut [u8]) -> io::Result<usize>
 }
 
 // The bytes of the file that word i names, as many as the room holds.
-pub fn read<'a>(rt: &HostRuntime, i: usize, room: &'a mut [u8]) -> Result<&'a [u8], Failure> {
+pub fn read<'a>(rt: &HostRuntime, i: usize, room: &'a mut [u8]) -> Result<&'a [u8], Failure>
+    ensures { IfOk result (λ s. length s.now ≤ length room.old) }
+{
     let mut name_room = [0u8; words::MOST];
     let name = words::word(rt, i, &mut name_room).map_err(|e| Failure::System(
         Subject::FileName,

@@ -2,7 +2,7 @@
 ghost use Rattle.std.specs.Prelude.{◌≤◌, length};
 
 use crate::failure::{Failure, Subject};
-use crate::words;
+use crate::{say, words};
 use command::lines;
 use printing::Text;
 use std::fs::{File, OpenOptions};
@@ -56,7 +56,7 @@ fn finish(
     rename(rt, temporary, name)
 }
 
-// Writes the file that word i names; where that fails after the temporary file was made, takes that away.
+// Writes the file that word i names; where that fails after the temporary file was made, says so and takes that away.
 pub fn write(rt: &HostRuntime, i: usize, bytes: &[u8]) -> Result<(), Failure> {
     let mut name_room = [0u8; words::MOST];
     let name = words::word(rt, i, &mut name_room).map_err(|e| Failure::System(
@@ -67,7 +67,8 @@ pub fn write(rt: &HostRuntime, i: usize, bytes: &[u8]) -> Result<(), Failure> {
     let temporary = text.as_bytes();
     let file = create(rt, temporary).map_err(|e| Failure::System(Subject::Temporary(i), e))?;
     finish(rt, file, bytes, temporary, name).map_err(|e| {
+        say::failure(rt, Failure::System(Subject::File(i), e));
         let _ = remove(rt, temporary);
-        Failure::System(Subject::File(i), e)
+        Failure::Said
     })
 }

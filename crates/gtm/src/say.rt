@@ -140,6 +140,7 @@ pub fn failure(rt: &HostRuntime, failure: Failure) {
             reason(rt, e);
         }
         Failure::Refused(r) => return refused(rt, r),
+        Failure::Said => return,
     }
     err(rt, b"\n");
     usage(&rt.stderr());

@@ -1,5 +1,5 @@
 // Tag, replace, withdraw and add: the commands that write a tag file.
-ghost use Rattle.std.specs.Prelude.{◌≤◌, length};
+ghost use Rattle.std.specs.Prelude.{◌≤◌, length, IfOk};
 
 use crate::failure::Failure;
 use crate::{heads, input, output, say, words};
@@ -44,7 +44,9 @@ fn read_card<'a>(
     rt: &HostRuntime,
     word: Option<usize>,
     room: &'a mut [u8],
-) -> Result<&'a [u8], Failure> {
+) -> Result<&'a [u8], Failure>
+    ensures { IfOk result (λ s. length s.now ≤ length room.old) }
+{
     match word {
         Some(i) => input::read(rt, i, room),
         None => Ok(&[]),

@@ -98,8 +98,8 @@ impl<const N: usize> Text<N> {
         self.put_decimal(n);
     }
 
-    // Puts the line of a refusal's number and place.
-    fn put_refusal(&mut self, number: u8, place: usize)
+    // Puts the line of a refusal's number and place, whichever they are.
+    pub fn put_refusal(&mut self, number: u8, place: usize)
         requires { length self.old + 56 ≤ N }
         ensures written { self.new ≡ self.old ++ refused_line (refusal number place) }
         ensures short { length self.new ≤ length self.old + 56 }

@@ -69,7 +69,7 @@ report_writes keys s f out =
     then marks_of (named (family_of (code_of f)) (agrees (keys_in keys) s f)) (item_count s) ++ drop (item_count s) out
     else out
 
--- the answer; a refused report says Beyond, so that no caller takes it for a good one
+-- the answer; of a refused report, which gives its caller none, Beyond, so that it is not taken for a good one
 unfoldable pub report_answer : List ℕ → List ℕ → List ℕ → List ℕ → Answer
 report_answer keys s f out =
     if passes (report_refusal keys s f (length out)) then answer (family_of (code_of f)) (agrees (keys_in keys) s f) (item_count s) else Beyond

@@ -3,10 +3,10 @@
 ghost use Rattle.tables.specs.RoundTables.{RoundTables, inv_round_entry};
 
 // The tables. A type beside `Tables`, since one type for both would need a marker type for each, and say no more.
-#[derive(Drop)]
+#[derive(Clone, Copy)]
 pub struct InvTables {
     pub words: [u32; 512],
-    ghost entries: { RoundTables words inv_round_entry },
+    pub ghost entries: { RoundTables words inv_round_entry },
 }
 
 // The tables. A caller takes them once and passes them down by reference.

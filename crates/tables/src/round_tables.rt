@@ -3,10 +3,10 @@
 ghost use Rattle.tables.specs.RoundTables.{RoundTables, round_entry};
 
 // The tables.
-#[derive(Drop)]
+#[derive(Clone, Copy)]
 pub struct Tables {
     pub words: [u32; 512],
-    ghost entries: { RoundTables words round_entry },
+    pub ghost entries: { RoundTables words round_entry },
 }
 
 // The tables. A caller takes them once and passes them down by reference.

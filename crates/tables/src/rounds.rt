@@ -76,7 +76,7 @@ fn sub_byte(t: &Tables, b: u32) -> u8
 }
 
 // A byte of each of four columns, the first of one, the second of the next and so on, through the S-box.
-fn gather(t: &Tables, a: u32, b: u32, c: u32, d: u32) -> u32
+pub fn gather(t: &Tables, a: u32, b: u32, c: u32, d: u32) -> u32
     ensures { bytes_of result ≡ sbox (a % 256) ∷ sbox (b / 256 % 256) ∷ sbox (c / 65536 % 256) ∷ sbox (d / 16777216 % 256) ∷ [] }
 {
     from_bytes(

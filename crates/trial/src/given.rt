@@ -102,31 +102,57 @@ pub struct Given {
 }
 
 impl Given {
-    // Where a line does not say otherwise: a shelf of two cards, the keys, the shelf's sheet of size 1, both files of version 1, its card 1 by
-    // the letter b.
-    pub fn usual() -> Given {
-        let mut given = Given {
-            shelf: 12,
-            keys: 48,
-            sheet: 88,
-            old: 1,
-            new: 1,
-            size: 1,
-            count: 2,
-            card: 1,
-            lent: 1400,
+    // One that is nothing yet: each line begins with it anew. It is as large as a whole shelf, so that it is made once.
+    pub fn new() -> Given {
+        Given {
+            shelf: 0,
+            keys: 0,
+            sheet: 0,
+            old: 0,
+            new: 0,
+            size: 0,
+            count: 0,
+            card: 0,
+            lent: 0,
             puts: 0,
             taken: 0,
             closed: 0,
             byte: 0,
-            version: 1,
+            version: 0,
             number: 0,
             unknown: false,
             last: Argument::Shelf,
             bytes: [0u8; 72192],
-        };
-        given.put_usual();
-        given
+        }
+    }
+
+    // Makes it what a line is given that does not say otherwise: a shelf of two cards, the keys, the shelf's sheet of size 1, both files of
+    // version 1, its card 1 by the letter b.
+    pub fn begin(&mut self) {
+        self.shelf = 12;
+        self.keys = 48;
+        self.sheet = 88;
+        self.old = 1;
+        self.new = 1;
+        self.begin_numbers();
+        self.last = Argument::Shelf;
+        self.bytes.fill(0);
+        self.put_usual();
+    }
+
+    // The numbers that are no lengths.
+    fn begin_numbers(&mut self) {
+        self.size = 1;
+        self.count = 2;
+        self.card = 1;
+        self.lent = 1400;
+        self.puts = 0;
+        self.taken = 0;
+        self.closed = 0;
+        self.byte = 0;
+        self.version = 1;
+        self.number = 0;
+        self.unknown = false;
     }
 
     // Writes the bytes of the usual arguments, each where it starts.

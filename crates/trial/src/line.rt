@@ -40,11 +40,11 @@ fn follow(words: &[u8], given: &mut Given) {
 }
 
 // Runs the call of a line, and says the line and what came out.
-fn run(rt: &impl Print, line: &[u8]) -> io::Result<()> {
+fn run(rt: &impl Print, line: &[u8], given: &mut Given) -> io::Result<()> {
     let (call, words) = split_first_at(line, b' ');
-    let mut given = Given::usual();
-    follow(words, &mut given);
-    calls::run(rt, line, call, &mut given)
+    given.begin();
+    follow(words, given);
+    calls::run(rt, line, call, given)
 }
 
 // How many bytes a text of lines has at most.
@@ -52,10 +52,11 @@ pub const TEXT_MOST: usize = 65536;
 
 // Runs each line of a text. `split` would give an empty line more behind a last line end.
 pub fn run_all(rt: &impl Print, text: &[u8]) -> io::Result<()> {
+    let mut given = Given::new();
     let mut rest = text;
     while !rest.is_empty() {
         let (line, tail) = split_first_at(rest, b'\n');
-        run(rt, line)?;
+        run(rt, line, &mut given)?;
         rest = tail;
     }
     Ok(())

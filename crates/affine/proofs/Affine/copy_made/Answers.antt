@@ -10,9 +10,11 @@ slice_bounds-copy-end c =
     made_room c.args.self.now.field.s c.args.self.now.l c.requires.made_in c.skip-at.ensures.past c.wide_entry-start.ensures.read c.index.ensures c.entry.ensures.read
 
 pub copy-requires : goal.copy-requires
-copy-requires c =
-    rw (made_part c.args.self.now.field.s c.args.self.now.l c.requires.made_in c.skip-at.ensures.past c.wide_entry-start.ensures.read c.index.ensures c.entry.ensures.read)
-    (made_few c.args.self.now.field.s c.args.self.now.l c.args.self.now.size c.args.i c.requires.le_i.0 c.requires.le_i.1)
+copy-requires c = (
+  rw (made_part c.args.self.now.field.s c.args.self.now.l c.requires.made_in c.skip-at.ensures.past c.wide_entry-start.ensures.read c.index.ensures c.entry.ensures.read)
+      (made_few c.args.self.now.field.s c.args.self.now.l c.args.self.now.size c.args.i c.requires.le_i.0 c.requires.le_i.1),
+  c.requires.le_i.2,
+)
 
 pub returns : goal.returns
 returns c =

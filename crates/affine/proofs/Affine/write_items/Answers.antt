@@ -15,7 +15,7 @@ pub bounds-out-k : goal.bounds-out-k
 bounds-out-k c =
     let few : c.item_count-n.result ≤ 9 =
     omega (arith, c.item_count-n.ensures, count_nine c.args.self.now.field.s c.args.self.now.l c.args.p c.args.self.now.size) in
-    omega (arith, c.loop-k-test.true, c.loop-k.invariant.0, few)
+    omega (arith, c.loop-k-test.true, c.loop-k.invariant.0, few, c.requires.in_bounds)
 
 pub loop-k-preserved : goal.loop-k-preserved
 loop-k-preserved c =
@@ -26,7 +26,7 @@ loop-k-preserved c =
     let n = through_count c.args.self.now.field.s c.args.self.now.l c.args.p in (
       search rules,
       part_turn k (firsts f n) c.args.out.now c.loop-k.out _ c.loop-k.invariant.1
-          (omega (arith, c.loop-k-test.true, few)) (omega (arith, c.loop-k-test.true, c.item_count-n.ensures, firsts-length f n))
+          (omega (arith, c.loop-k-test.true, few, c.requires.in_bounds)) (omega (arith, c.loop-k-test.true, c.item_count-n.ensures, firsts-length f n))
           (c.item_at.ensures ∙ sym (firsts_at f n k (omega (arith, c.loop-k-test.true, c.item_count-n.ensures)))),
     )
 

@@ -1,10 +1,16 @@
--- The first n blocks of a list are its first 16 n bytes (Slots).
-use Rattle.std.specs.Prelude.{◌≡◌, ◌-◌, ◌*◌}
-use Rattle.fips197.proofs.Kit.{refl, arith}
-use Rattle.blocks.proofs.Slots.{slots_front}
+-- Each turn writes one block; those before it stay (Slots).
+use Rattle.fips197.proofs.Kit.{arith, rules}
+use Rattle.blocks.specs.Block.{slot}
+use Rattle.blocks.proofs.Slots.{front-first, front-next, front_done}
 use Rattle.blocks.proofs.block.copy_blocks.Goals as goal
 
+pub loop-k-init : goal.loop-k-init
+loop-k-init c = front-first _ _
+
+pub loop-k-preserved : goal.loop-k-preserved
+unfolding slot
+loop-k-preserved c =
+    front-next (slot _) _ c.loop-k.k _ c.block_at.result _ c.loop-k.invariant (omega arith) c.block_at.ensures (search rules) c.put_at.ensures
+
 pub returns : goal.returns
-returns c =
-    let e : 16 * c.args.n - 0 ≡ 16 * c.args.n = omega arith in
-    rw (c.copy_from_slice.ensures.after, slots_front c.args.s.now c.args.n, e) refl
+returns c = front_done _ _ c.loop-k.k _ _ c.loop-k.invariant (omega arith)

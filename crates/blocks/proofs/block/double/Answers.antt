@@ -1,11 +1,11 @@
 -- Each turn writes one shifted byte; the last takes the mark (Doubling).
 use Rattle.std.specs.Prelude.{◌≡◌, ◌+◌, ◌*◌, ◌/◌, ◌%◌, ◌<◌}
-use Rattle.fips197.proofs.Kit.{refl, sym, ap, ◌∙◌, ℕ, arith, add-one, length, get_or, Fits, w8, rules}
+use Rattle.fips197.proofs.Kit.{refl, sym, ap, ◌∙◌, ℕ, arith, add-one, length, get_or, bit_xor, Fits, w8, rules}
 use Rattle.blocks.proofs.Loop.{part, part_turn, part_done}
 use Rattle.blocks.specs.Block.{Block, zeros}
 use Rattle.blocks.proofs.Xor.{bytes_from}
 use Rattle.blocks.specs.Double.{double}
-use Rattle.blocks.proofs.Doubling.{double-at, double-last, double-length, or_shifted_bit}
+use Rattle.blocks.proofs.Doubling.{double-at, double-last, double-length, or_shifted_bit, masked_bit}
 use Rattle.blocks.proofs.block.double.Goals as goal
 
 pub loop-i-preserved : goal.loop-i-preserved
@@ -29,7 +29,8 @@ returns c =
     let bl : Block b = record { long = h; bytes = bytes_from b (λ k l. (f k l).fits) } in
     let n : length (double b) ≡ 16 = double-length b in
     let e : c.loop-i.i ≡ 15 = omega arith in
+    let m = masked_bit (get_or b 0 0) c.wrapping_sub_u8-lost.result (f 0 (omega arith)).fits (search rules) c.wrapping_sub_u8-lost.ensures.value in
     part_done 16 16 (double b) (zeros 16) _
     (part_turn 15 (double b) (zeros 16) _ _ (c.loop-i.invariant ∙ ap (λ (k : ℕ). part k (double b) (zeros 16)) e) (omega arith) (omega arith)
-    (sym (double-last b bl)))
+    (ap (bit_xor (get_or b 15 0 * 2 % 256)) m ∙ sym (double-last b bl)))
     (omega arith) n refl

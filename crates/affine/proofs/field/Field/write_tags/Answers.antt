@@ -36,7 +36,7 @@ bounds-out-n c =
       c.loop-t.invariant.1.0,
       met_few a.self.s a.course a.tags.now c.loop-t.t,
     ) in
-    omega (arith, room, c.loop-t.invariant.0)
+    omega (arith, room, c.loop-t.invariant.0, c.requires.2)
 
 pub loop-t-preserved : goal.loop-t-preserved
 loop-t-preserved c =
@@ -60,7 +60,7 @@ loop-t-preserved c =
       | then-tag-ne0 w ↦ (
         rw w.out-is (length-set c.loop-t.out c.loop-t.n c.from-tag.result ∙ c.loop-t.invariant.0),
         rw (w.out-is, w.n-is) (met-one a.self.s a.course a.tags.now c.loop-t.t o c.loop-t.out c.loop-t.n c.from-tag.result entry w.if-tag-ne0.true
-            (omega (arith, room, m.0)) m),
+            (omega (arith, room, c.requires.2, m.0)) m),
       )
       | else-tag-ne0 w ↦ (
         rw w.out-is c.loop-t.invariant.0,

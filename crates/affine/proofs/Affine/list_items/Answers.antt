@@ -12,7 +12,7 @@ use Rattle.affine.proofs.Meeting.{x_low, y_low}
 use Rattle.affine.proofs.Disjunct.{F}
 use Rattle.affine.proofs.Listings.{firsts-length}
 use Rattle.affine.proofs.Walks.{items-along, items_out, point_low, point_high}
-use Rattle.affine.proofs.walk.AffineRows.items_of.Goals as goal
+use Rattle.affine.proofs.Affine.list_items.Goals as goal
 
 pub point_of-p-requires : goal.point_of-p-requires
 unfolding affine_family
@@ -49,7 +49,7 @@ write_items-requires c =
     inside_of c.args.row c.rows.ensures c.inside.ensures c.if-inside.true in
     let low : 1 ≤ c.point_of-p.result =
     rw c.point_of-p.ensures (point_low c.args.self.now.field.s c.args.self.now.l c.args.self.now.size c.args.row (inside-low _ c.args.row row) (inside-high _ c.args.row row)) in
-    record { le_p = (low, c.course_of.ensures ∙ ap (course_of c.args.self.now.field.s) c.dual.ensures) }
+    record { le_p = (low, c.course_of.ensures ∙ ap (course_of c.args.self.now.field.s) c.dual.ensures); in_bounds = c.requires }
 
 pub returns-then-inside : goal.returns-then-inside
 unfolding affine_family

@@ -14,7 +14,7 @@ use Rattle.affine.proofs.Computing.{sized-offered}
 use Rattle.affine.proofs.Tables.{begins, part_test, ranks, tag_set, tag_list, row_tags, entries, point_tags_lem, point_tags_test, point_tags, part_long}
 use Rattle.affine.proofs.Walks.{card_proper, tags-along, tags_out}
 use Rattle.affine.proofs.Steps.{start_low}
-use Rattle.affine.proofs.walk.AffineRows.tags_of.Goals as goal
+use Rattle.affine.proofs.Affine.list_tags.Goals as goal
 
 pub line_of-requires : goal.line_of-requires
 unfolding affine_family
@@ -34,7 +34,7 @@ course_of-course-requires c =
 
 pub write_tags-requires : goal.write_tags-requires
 write_tags-requires c =
-    (rw c.course_of-course.ensures (start_low _ (sized-offered _ _ c.args.self.now.size) _), part_long c.args.self.now.field.s c.args.self.now.l c.args.self.now.size _ c.part.ensures refl)
+    (rw c.course_of-course.ensures (start_low _ (sized-offered _ _ c.args.self.now.size) _), part_long c.args.self.now.field.s c.args.self.now.l c.args.self.now.size _ c.part.ensures refl, c.requires)
 
 pub returns-then-inside : goal.returns-then-inside
 unfolding part_test ranks tag_set tag_list row_tags entries point_tags_lem point_tags_test begins has size_index points x_of y_of on_line chosen is_row polynomial element_times_x product_over product affine_family
